@@ -1,0 +1,6 @@
+pub mod Sums
+pub mod Shares
+pub mod Giving
+pub mod Lengths
+pub mod Laying
+pub mod Counted

@@ -1,0 +1,8 @@
+// Reading lists: which blocks a rebuild of a lost box fetches.
+mod fills;
+mod place;
+mod reading;
+
+pub use place::Place;
+pub use reading::count;
+pub use reading::list;

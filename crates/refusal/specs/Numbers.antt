@@ -1,0 +1,12 @@
+-- The number of each ground for a refusal. Assumes nothing.
+use Prim.Native.Nat.{ℕ}
+use Rattle.refusal.specs.declared.Refusal.{Refusal}
+use Rattle.refusal.specs.declared.Refusal.the-variants.{PairNotAdmitted, IndexOutOfRange, NoSuchBox, NoSuchList, TooShort, NotOneLine}
+
+abbrev pub numberOf : Refusal → ℕ
+numberOf PairNotAdmitted = 2
+numberOf IndexOutOfRange = 3
+numberOf NoSuchBox = 8
+numberOf NoSuchList = 16
+numberOf TooShort = 17
+numberOf NotOneLine = 19
