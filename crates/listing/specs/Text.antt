@@ -1,0 +1,51 @@
+-- The text that is printed for an input. Assumes nothing.
+use mathlib.Core.Path.{_≡_}
+use mathlib.Core.List.{List, [], _∷_, _++_}
+use Prim.Native.Nat.{ℕ, _≤_}
+use lib.Chars.{codes}
+use lib.ListN.{length}
+use Rattle.std.specs.declared.option.Option.{Option}
+use Rattle.std.specs.declared.option.Option.the-variants.{Some, None}
+use Rattle.std.specs.declared.result.Result.{Result}
+use Rattle.std.specs.declared.result.Result.the-variants.{Ok, Err}
+use Rattle.std.specs.Joined.{joined}
+use Rattle.std.specs.Written.{decimal}
+use Rattle.refusal.specs.declared.Refusal.{Refusal}
+use Rattle.refusal.specs.declared.Refusal.the-variants.{NotOneLine}
+use Rattle.refusal.specs.Numbers.{numberOf}
+use Rattle.lists.specs.declared.place.Place.{Place}
+use Rattle.lists.specs.ReadingLists.{readingList}
+use Rattle.lists.specs.Answers.{countAnswer}
+use Rattle.listing.specs.declared.request.Request.{Request}
+use Rattle.listing.specs.Line.{requestOf}
+
+-- `refused` and the number
+abbrev pub refusedText : Refusal → List ℕ
+refusedText e = codes "refused " ++ (decimal (numberOf e) ++ codes "\n")
+
+-- a line with box and row
+abbrev pub placeLine : Place → List ℕ
+placeLine p = decimal (p .«box_number») ++ (codes " " ++ (decimal (p .row) ++ codes "\n"))
+
+-- the heading, a line for each place, and a line with `blocks` and the count
+abbrev pub placesText : List Place → List ℕ
+placesText places = codes "box row\n" ++ (joined placeLine places ++ (codes "blocks " ++ (decimal (length places) ++ codes "\n")))
+
+abbrev pub countedText : List Place → Result ℕ Refusal → List ℕ
+countedText places (Ok n) = placesText places
+countedText places (Err e) = refusedText e
+
+abbrev pub requestText : Option Request → List ℕ
+requestText None = refusedText NotOneLine
+requestText (Some q) = countedText (readingList (q .m) (q .k) (q .lost) (q .list)) (countAnswer (q .m) (q .k) (q .lost) (q .list))
+
+-- the whole text
+abbrev pub answerText : List ℕ → List ℕ
+answerText input = requestText (requestOf input)
+
+-- the first 25 bytes of an input decide: a line has at most 24
+abbrev pub enough : ℕ
+enough = 25
+
+abbrev pub FirstBytesDecide : Type 0
+FirstBytesDecide = (input more : List ℕ) → enough ≤ length input → answerText (input ++ more) ≡ answerText input

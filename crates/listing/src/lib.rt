@@ -1,0 +1,7 @@
+// From one line of input to the printed reading list.
+mod line;
+mod request;
+mod text;
+
+pub use request::Request;
+pub use text::{ENOUGH, answer};
