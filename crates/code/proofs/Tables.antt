@@ -2,7 +2,7 @@
 use mathlib.Core.Path.{_≡_, refl, sym, ap, ap₂, _∙_}
 use mathlib.Core.Logic.{⊎-elim}
 use mathlib.Core.Bool.{Bool, true, false, not, _&&_, _||_}
-use mathlib.Core.List.{List, [], _∷_}
+use mathlib.Core.List.{List, [], _∷_, _++_}
 use Prim.Native.Nat.{ℕ, zero, suc, _+_, _≤_, _<_}
 use native.Mathlib.Omega.{arith}
 use lib.Dec.{eqb, leb}
@@ -13,7 +13,7 @@ use Rattle.std.proofs.shelf.Elements.{all-getD}
 use Rattle.std.proofs.shelf.Lists.{at-drop-more, at-drop-all}
 use Rattle.code.specs.declared.sizes.Sizes.{Sizes}
 use Rattle.code.specs.Pairs.{most-parity, most-data, rowsOf, admitted}
-use Rattle.code.specs.Table.{has, TableRule}
+use Rattle.code.specs.Table.{has, pairsOf, TableRule}
 use Rattle.code.proofs.Admission.{refused-parity, refused-data}
 
 -- each r is the power, and no entry has more boxes than the limits
@@ -74,8 +74,9 @@ agrees-below table (suc l) n m k e lm lk =
     (λ h. let q : l ≡ m = omega arith in rw q at (agrees-at-below table l n k (parts .0) lk))
     (cases-lt m l)
 
-pub table-rule : (table : List Sizes) → length table ≡ 21 → every table ≡ true → agrees table 5 12 ≡ true → TableRule table
-table-rule table n e a = record {
+pub table-rule : (table : List Sizes) → table ≡ pairsOf 2 10 ++ (pairsOf 3 6 ++ pairsOf 4 5) → length table ≡ 21 → every table ≡ true → agrees table 5 12 ≡ true → TableRule table
+table-rule table o n e a = record {
+  in-order = o;
   there-are-21 = n;
   each-r-is-the-power = powers table e;
   holds-exactly-the-admitted = λ m k. ⊎-elim (many-parity m k) (λ lm. ⊎-elim (many-data m k) (λ lk. agrees-below table 5 12 m k a (omega arith) (omega arith)) (cases-lt most-data k)) (cases-lt most-parity m);

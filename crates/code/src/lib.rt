@@ -12,5 +12,8 @@ pub use generator::place;
 pub use pair::Pair;
 pub use rows::DIGITS;
 pub use sizes::Sizes;
+pub use sizes::SizesDebug;
+pub use sizes::SizesEq;
+pub use sizes::SizesPartialEq;
 pub use table::admit;
 pub use table::pairs;

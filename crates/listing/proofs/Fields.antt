@@ -54,7 +54,7 @@ pub field-found : (n v stop : ℕ) (bytes : List ℕ) → n ≡ leading isDigit 
 field-found n v stop bytes e some few l at is =
     ap (λ i. fieldAt i stop bytes) (sym e)
     ∙ cond-true (leb 1 n && (leb n most-digits && begins stop (drop n bytes))) (Some (valueOf (take n bytes), drop (suc n) bytes)) None
-      (and-from (leb 1 n) _ (le-leb 1 n (omega arith)) (and-from (leb n most-digits) (begins stop (drop n bytes)) (le-leb n most-digits few) (begins-there n stop bytes l at)))
+    (and-from (leb 1 n) _ (le-leb 1 n (omega arith)) (and-from (leb n most-digits) (begins stop (drop n bytes)) (le-leb n most-digits few) (begins-there n stop bytes l at)))
     ∙ ap₂ (λ x y. Some (x, y)) (sym (is ∙ ap (λ i. valueOf (take i bytes)) less)) (ap (λ i. drop i bytes) (sym (add-one n)) ∙ sym (take-rest bytes (n + 1)))
   where
     less : n - 0 ≡ n

@@ -36,8 +36,8 @@ field-of-numeral digits stop rest num no′ =
     let bytes : List ℕ = digits ++ stop ∷ rest in
     ap (λ i. fieldAt i stop (digits ++ stop ∷ rest)) (leading-front digits stop rest (num .all-digits) no′)
     ∙ cond-true (leb 1 n && (leb n most-digits && begins stop (drop n bytes))) (Some (valueOf (take n bytes), drop (suc n) bytes)) None
-      (and-from (leb 1 n) _ (le-leb 1 n (num .some-digit)) (and-from (leb n most-digits) (begins stop (drop n bytes)) (le-leb n most-digits (num .few-digits))
-        (ap (begins stop) (drop-at digits (stop ∷ rest) n refl) ∙ eq-eqb stop stop refl)))
+    (and-from (leb 1 n) _ (le-leb 1 n (num .some-digit)) (and-from (leb n most-digits) (begins stop (drop n bytes)) (le-leb n most-digits (num .few-digits))
+    (ap (begins stop) (drop-at digits (stop ∷ rest) n refl) ∙ eq-eqb stop stop refl)))
     ∙ ap₂ (λ x y. Some (x, y)) (ap valueOf (take-at digits (stop ∷ rest) n refl)) (drop-past digits stop rest)
 
 -- what a field that was found says of the bytes
@@ -110,11 +110,11 @@ read-is-line input q e =
       third-number = fc .numeral;
       fourth-number = fd .numeral;
       spelled =
-        fa .spelled
-        ∙ ap (λ xs. fa .digits ++ (space ∷ xs)) (fb .spelled
-        ∙ ap (λ xs. fb .digits ++ (space ∷ xs)) (fc .spelled
-        ∙ ap (λ xs. fc .digits ++ (space ∷ xs)) (fd .spelled
-        ∙ ap (λ xs. fd .digits ++ (newline ∷ xs)) (z .0))));
+          fa .spelled
+          ∙ ap (λ xs. fa .digits ++ (space ∷ xs)) (fb .spelled
+          ∙ ap (λ xs. fb .digits ++ (space ∷ xs)) (fc .spelled
+          ∙ ap (λ xs. fc .digits ++ (space ∷ xs)) (fd .spelled
+          ∙ ap (λ xs. fd .digits ++ (newline ∷ xs)) (z .0))));
       values = sym (z .1) ∙ (λ i. record { m = fa .value i; k = fb .value i; lost = fc .value i; list = fd .value i });
     }
 
@@ -125,10 +125,10 @@ line-is-read input q line =
     let second : List ℕ = line .second ++ (space ∷ third) in
     ap requestOf (line .spelled)
     ∙ fields-read (line .first ++ (space ∷ second)) second third last [] (valueOf (line .first)) (valueOf (line .second)) (valueOf (line .third)) (valueOf (line .fourth))
-      (field-of-numeral (line .first) space second (line .first-number) refl)
-      (field-of-numeral (line .second) space third (line .second-number) refl)
-      (field-of-numeral (line .third) space last (line .third-number) refl)
-      (field-of-numeral (line .fourth) newline [] (line .fourth-number) refl)
+    (field-of-numeral (line .first) space second (line .first-number) refl)
+    (field-of-numeral (line .second) space third (line .second-number) refl)
+    (field-of-numeral (line .third) space last (line .third-number) refl)
+    (field-of-numeral (line .fourth) newline [] (line .fourth-number) refl)
     ∙ ap Some (sym (line .values))
 
 pub reader-finds-just-the-lines : ReaderFindsJustTheLines
@@ -140,8 +140,18 @@ line-short input q line =
     let last : List ℕ = line .fourth ++ (newline ∷ []) in
     let third : List ℕ = line .third ++ (space ∷ last) in
     let second : List ℕ = line .second ++ (space ∷ third) in
-    omega (arith, ap length (line .spelled), length-append (line .first) (space ∷ second), length-append (line .second) (space ∷ third), length-append (line .third) (space ∷ last), length-append (line .fourth) (newline ∷ []),
-        line .first-number .few-digits, line .second-number .few-digits, line .third-number .few-digits, line .fourth-number .few-digits)
+    omega (
+      arith,
+      ap length (line .spelled),
+      length-append (line .first) (space ∷ second),
+      length-append (line .second) (space ∷ third),
+      length-append (line .third) (space ∷ last),
+      length-append (line .fourth) (newline ∷ []),
+      line .first-number .few-digits,
+      line .second-number .few-digits,
+      line .third-number .few-digits,
+      line .fourth-number .few-digits,
+    )
 
 long-is-no-line : (input : List ℕ) → enough ≤ length input → requestOf input ≡ None
 long-is-no-line input l = go (requestOf input) refl

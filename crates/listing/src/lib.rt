@@ -4,4 +4,5 @@ mod request;
 mod text;
 
 pub use request::Request;
-pub use text::{ENOUGH, answer};
+pub use text::ENOUGH;
+pub use text::answer;

@@ -9,6 +9,9 @@ ghost use Rattle.std.specs.shelf.Lists.{All, leading};
 ghost use Rattle.listing.specs.Line.{isDigit, valueOf, fieldOf, requestOf};
 use crate::request::Request;
 
+// The most digits of a number.
+const MOST_DIGITS: usize = 5;
+
 // How many digits the input begins with.
 fn digits_ahead(input: &[u8]) -> usize
     ensures { λ r. ⌜ r ≡ leading isDigit (now (input .entry)) ⌝ }
@@ -40,7 +43,7 @@ fn field(input: &[u8], stop: u8) -> Option<(usize, &[u8])>
     ensures { λ r. ⌜ Cases r (fieldOf stop (now (input .entry)) ≡ None) (λ x. fieldOf stop (now (input .entry)) ≡ Some (x .0, now (x .1))) ⌝ }
 {
     let n = digits_ahead(input);
-    if n == 0 || n > 5 || n == input.len() || input[n] != stop {
+    if n == 0 || n > MOST_DIGITS || n == input.len() || input[n] != stop {
         return None;
     }
     Some((value(&input[0..n]), &input[n + 1..]))

@@ -47,8 +47,17 @@ fn listed(heap: Global, request: &Request, n: usize) -> Result<String, AllocErro
     requires { ⌜ countAnswer (now request .m) (now request .k) (now request .lost) (now request .list) ≡ Ok n ⌝ }
     ensures { λ r. ⌜ made r (λ s. string-bytes s ≡ placesText (readingList (now (request .entry) .m) (now (request .entry) .k) (now (request .entry) .lost) (now (request .entry) .list))) ⌝ }
 {
-    let mut places = vec![in heap; Place { box_number: 0, row: 0 }; n]?;
-    match list(request.m, request.k, request.lost, request.list, places.as_mut_slice()) {
+    let mut places = vec![in heap; Place {
+        box_number: 0,
+        row: 0
+    }; n]?;
+    match list(
+        request.m,
+        request.k,
+        request.lost,
+        request.list,
+        places.as_mut_slice(),
+    ) {
         Ok(_) => printed(heap, places.as_slice()),
         Err(refusal) => refused(heap, refusal),
     }

@@ -17,7 +17,7 @@ use Rattle.code.proofs.Answering.{pair-admitted}
 use Rattle.lists.specs.declared.place.Place.{Place}
 use Rattle.lists.specs.ReadingLists.{gives, placesWhere, readingList, listsOf}
 use Rattle.lists.specs.Answers.{countFor, countAnswer, inRoom, listAnswer, laid, filled, listAfter}
-use Rattle.lists.proofs.Lengths.{list-counts}
+use Rattle.lists.proofs.Lengths.{list-laws}
 
 -- a list that there is has its length for a count
 pub count-there : (m k f c n : ℕ) → f < m + k → c < listsOf m k f → length (readingList m k f c) ≡ n → Ok n ≡ countFor m k f c
@@ -29,12 +29,12 @@ count-there m k f c n hf hc e =
 pub count-of-data : (p : Pair) (f c : ℕ) → f < p .k → c < p .m → Ok ((p .m + p .k - 1) * (p .r / p .m)) ≡ countFor (p .m) (p .k) f c
 count-of-data p f c hf hc =
     count-there (p .m) (p .k) f c _ (omega arith) (rw (cond-true (ltb f (p .k)) (p .m) 1 (lt-ltb f (p .k) hf)) hc)
-    (list-counts (p .m) (p .k) (omega arith) (omega arith) .data-box-takes-one-block-in-m f c hf hc ∙ ap (λ r. (p .m + p .k - 1) * (r / p .m)) (sym (p .power)))
+    (list-laws (p .m) (p .k) (omega arith) (omega arith) .data-box-takes-one-block-in-m f c hf hc ∙ ap (λ r. (p .m + p .k - 1) * (r / p .m)) (sym (p .power)))
 
 pub count-of-parity : (p : Pair) (f c : ℕ) → f < p .m + p .k → p .k ≤ f → c < 1 → Ok (p .k * p .r) ≡ countFor (p .m) (p .k) f c
 count-of-parity p f c hf hk hc =
     count-there (p .m) (p .k) f c _ hf (rw (cond-false (ltb f (p .k)) (p .m) 1 (le-ltb f (p .k) hk)) hc)
-    (list-counts (p .m) (p .k) (omega arith) (omega arith) .parity-box-takes-all-data f c hk ∙ ap (λ r. p .k * r) (sym (p .power)))
+    (list-laws (p .m) (p .k) (omega arith) (omega arith) .parity-box-takes-all-data f c hk ∙ ap (λ r. p .k * r) (sym (p .power)))
 
 -- and back: what a count tells
 count-tells : (m k f c n : ℕ) → Ok n ≡ countFor m k f c → (c < listsOf m k f) × (n ≡ length (readingList m k f c))

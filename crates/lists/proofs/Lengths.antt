@@ -14,9 +14,10 @@ use Rattle.code.specs.Pairs.{rowsOf}
 use Rattle.code.specs.Rows.{digit, low}
 use Rattle.lists.specs.declared.place.Place.{Place}
 use Rattle.lists.specs.ReadingLists.{firstDigitIs, differenceIs, gives, placeAt, rowsWhere, placesWhere, readingList}
-use Rattle.lists.specs.Counting.{ListCounts, ListCountsHold}
+use Rattle.lists.specs.ListLaws.{ListLaws, ListLawsHold}
 use Rattle.lists.proofs.Sums.{total, count, total-ext, count-ext, count-same, total-but-one, total-first}
 use Rattle.lists.proofs.Giving.{gives-own, gives-other, gives-parity}
+use Rattle.lists.proofs.Order.{places-rise, only-places, all-places}
 use Rattle.lists.proofs.Shares.{one-more, digit-share, difference-share}
 
 pub rows-length : (p : ℕ → Bool) (b n : ℕ) → length (rowsWhere p b n) ≡ count n p
@@ -64,9 +65,9 @@ all-rows : (r : ℕ) (t : Bool) → cond t 1 0 * r ≡ cond t r 0
 all-rows r true = omega arith
 all-rows r false = omega arith
 
-pub list-counts : ListCountsHold
+pub list-laws : ListLawsHold
 unfolding readingList
-list-counts m k p hk = record {
+list-laws m k p hk = record {
   data-box-takes-one-block-in-m = λ f c hf hc.
       let s : ℕ = rowsOf m k / m in
       places-length (gives m k f c) (rowsOf m k) (m + k)
@@ -77,6 +78,9 @@ list-counts m k p hk = record {
       ∙ total-ext (m + k) (λ b. count (rowsOf m k) (gives m k f c b)) (λ b. cond (ltb b k) (rowsOf m k) 0)
       (λ b _. count-ext (rowsOf m k) (gives m k f c b) (λ _. ltb b k) (λ y _. gives-parity m k f c b y hf) ∙ count-same (rowsOf m k) (ltb b k) ∙ all-rows (rowsOf m k) (ltb b k))
       ∙ total-first (m + k) k (rowsOf m k) (omega arith);
+  boxes-rise-then-rows = λ f c. places-rise (gives m k f c) (rowsOf m k) (m + k);
+  only-given-places = λ f c b y. only-places (gives m k f c) (rowsOf m k) (m + k) b y;
+  all-given-places = λ f c b y. all-places (gives m k f c) (rowsOf m k) (m + k) b y;
 }
   where
     less-one : (n s t : ℕ) → 0 < n → t + s ≡ n * s → t ≡ (n - 1) * s

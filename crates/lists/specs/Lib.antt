@@ -1,3 +1,3 @@
 pub mod ReadingLists
-pub mod Counting
+pub mod ListLaws
 pub mod Answers

@@ -1,6 +1,6 @@
 ghost use mathlib.Core.Path.{_≡_};
 ghost use lib.ListN.{length};
-ghost use Rattle.lists.specs.Counting.{ListCountsHold};
+ghost use Rattle.lists.specs.ListLaws.{ListLawsHold};
 ghost use Rattle.lists.specs.Answers.{countFor, countAnswer, listAnswer, listAfter};
 use crate::fills::fill;
 use crate::place::Place;
@@ -46,7 +46,7 @@ pub fn list(
 ) -> Result<usize, Refusal>
     ensures answers { λ r. ⌜ r ≡ listAnswer m k lost c (length (now (places .entry))) ⌝ }
     ensures places { λ _. ⌜ now (places .exit) ≡ listAfter m k lost c (now (places .entry)) ⌝ }
-    ensures list_counts { λ _. ⌜ ListCountsHold ⌝ }
+    ensures list_laws { λ _. ⌜ ListLawsHold ⌝ }
 {
     let pair = admit(m, k)?;
     let count = count_for(&pair, lost, c)?;

@@ -5,4 +5,4 @@ use Rattle.code.proofs.table.pairs.Needs as need
 
 pub returns : need.returns
 unfolding rowsOf admitted
-returns c = table-rule _ refl refl refl
+returns c = table-rule _ refl refl refl refl

@@ -30,5 +30,5 @@ pub part-result-start : need.part-result-start
 part-result-start c = let h = leading-le-length isDigit (c .args .input .now) in search needs
 
 pub returns : need.returns
-returns c = field-found (c .digits-ahead-n .result) (c .value .result) (c .args .stop) (c .args .input .now) (c .digits-ahead-n .ensures) (c .if-n-eq0 .left) (c .if-n-gt5 .left)
+returns c = field-found (c .digits-ahead-n .result) (c .value .result) (c .args .stop) (c .args .input .now) (c .digits-ahead-n .ensures) (c .if-n-eq0 .left) (c .if-n-gt-MOST-DIGITS .left)
     (omega (arith, c .digits-ahead-n .ensures, leading-le-length isDigit (c .args .input .now), c .if-n-input .left)) (c .if-input-n .left) (c .value .ensures)

@@ -11,5 +11,5 @@ returns-in-Ok c =
     let v = c .in-Continue-places .places in
     subst (λ xs. made (c .printed .result) (λ s. string-bytes s ≡ placesText xs))
     (list-in-vec (q .m) (q .k) (q .lost) (q .list) (c .args .n) (v .len) (v .items) (c .as-mut-slice .result .now) (c .list .last .places) (c .as-slice .result .now)
-        (c .pre) (c .in-Continue-places .ensures tt .made .1) (c .as-mut-slice .ensures .len) (c .list .kept .places) (c .in-Ok .ensures tt .places) (c .as-slice .ensures .value))
+    (c .pre) (c .in-Continue-places .ensures tt .made .1) (c .as-mut-slice .ensures .len) (c .list .kept .places) (c .in-Ok .ensures tt .places) (c .as-slice .ensures .value))
     (c .printed .ensures)

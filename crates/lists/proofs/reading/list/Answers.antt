@@ -12,13 +12,13 @@ fill-requires c κs =
     (list-number p (c .args .lost) (c .args .c) n e, list-room p (c .args .lost) (c .args .c) n e (length (c .args .places .now)) (c .if-places-count .left))
 
 pub returns-in-Break-pair : need.returns-in-Break-pair
-returns-in-Break-pair c = record { answers = search needs; places = search needs; list-counts = lengths.list-counts }
+returns-in-Break-pair c = record { answers = search needs; places = search needs; list-laws = lengths.list-laws }
 
 pub returns-in-Break-count : need.returns-in-Break-count
-returns-in-Break-count c = record { answers = search needs; places = search needs; list-counts = lengths.list-counts }
+returns-in-Break-count c = record { answers = search needs; places = search needs; list-laws = lengths.list-laws }
 
 pub returns-then-places-count : need.returns-then-places-count
-returns-then-places-count c = record { answers = search needs; places = search needs; list-counts = lengths.list-counts }
+returns-then-places-count c = record { answers = search needs; places = search needs; list-laws = lengths.list-laws }
 
 pub returns : need.returns
 returns c =
@@ -29,5 +29,5 @@ returns c =
     record {
       answers = list-answer p (c .args .lost) (c .args .c) n e (c .args .m) (c .args .k) (got .1) (got .2) (c .args .places .now) (c .fill .last .places) (c .fill .result) (c .if-places-count .left) (c .fill .ensures .count) (c .fill .ensures .places);
       places = list-after p (c .args .lost) (c .args .c) n e (c .args .m) (c .args .k) (got .1) (got .2) (c .args .places .now) (c .fill .last .places) (c .fill .result) (c .if-places-count .left) (c .fill .ensures .count) (c .fill .ensures .places);
-      list-counts = lengths.list-counts;
+      list-laws = lengths.list-laws;
     }
