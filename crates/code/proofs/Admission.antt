@@ -1,12 +1,12 @@
 -- What it means to be admitted. Assumes nothing.
-use mathlib.Core.Path.{_≡_, sym}
+use mathlib.Core.Path.{_≡_}
 use mathlib.Core.Logic.{⊎-elim}
-use mathlib.Core.Bool.{Bool, true, false, _&&_}
-use Prim.Native.Nat.{ℕ, suc, pred, _^_, _≤_, _<_}
-use native.Mathlib.Nat.{pow-le-pow-left, pow-le-pow-right, le-trans}
+use mathlib.Core.Bool.{true, false}
+use Prim.Native.Nat.{ℕ, pred, _^_, _≤_, _<_}
+use native.Mathlib.Nat.{pow-le-pow-left, pow-le-pow-right}
 use native.Mathlib.Omega.{arith}
 use lib.Dec.{leb}
-use Rattle.std.proofs.shelf.Tests.{and-parts, and-from, leb-true, le-leb, lt-leb, and-left, and-right, cases-lt, cases-bool}
+use Rattle.std.proofs.shelf.Tests.{and-parts, leb-true, lt-leb, and-left, and-right, cases-lt, cases-bool}
 use Rattle.code.specs.Pairs.{most-parity, most-rows, most-data, rowsOf, admitted}
 
 pub record Admitted (m k : ℕ) : Type 0 where

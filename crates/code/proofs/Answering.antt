@@ -1,6 +1,5 @@
 -- Each way to an answer of this crate, and why it is the answer that is promised. Assumes nothing.
-use mathlib.Core.Path.{_≡_, refl, sym, ap, ap₂, _∙_}
-use mathlib.Core.Logic.{⊎-elim}
+use mathlib.Core.Path.{_≡_, refl, sym, ap, _∙_}
 use mathlib.Core.Bool.{Bool, true, false, cond, _&&_}
 use mathlib.Core.List.{List}
 use Prim.Native.Nat.{ℕ, pred, _+_, _*_, _/_, _%_, _≤_, _<_}
@@ -15,12 +14,12 @@ use Rattle.refusal.specs.declared.Refusal.the-variants.{PairNotAdmitted, IndexO
 use Rattle.code.specs.declared.pair.Pair.{Pair}
 use Rattle.code.specs.Pairs.{most-parity, most-rows, rowsOf, admitted}
 use Rattle.code.specs.Rows.{digit, row, held, low, changed, moved, place}
-use Rattle.code.specs.Generator.{Blocks, assembled, byPlace, closed, grown}
-use Rattle.code.specs.Answers.{checked, inside, placeAnswer, entryAnswer, entryOf, GeneratorEntry}
+use Rattle.code.specs.Generator.{Blocks, byPlace, closed, grown}
+use Rattle.code.specs.Answers.{checked, inside, entryAnswer, entryOf, GeneratorEntry}
 use Rattle.code.proofs.Admission.{Admitted, admitted-true}
-use Rattle.code.proofs.Digits.{digit-lt, row-ext}
+use Rattle.code.proofs.Digits.{row-ext}
 use Rattle.code.proofs.Places.{low-lt}
-use Rattle.code.proofs.Generators.{closed-is-by-place, grown-is-closed, one-generator}
+use Rattle.code.proofs.Generators.{closed-place, grown-is-closed, one-generator}
 
 pub pair-admitted : (p : Pair) → admitted (p .m) (p .k) ≡ true
 unfolding admitted
@@ -99,8 +98,8 @@ unfolding rowsOf
 generator-entry m k i y j x answer e = record {
   whether-x-is-the-place = e;
   entry-by-place = e ∙ same byPlace (λ a hj hy hx. refl);
-  entry-in-closed-form = e ∙ same closed (λ a hj hy hx. sym (closed-is-by-place m k i j y x (some a) hy hx));
-  entry-grown = e ∙ same grown (λ a hj hy hx. sym (grown-is-closed m k i j y x (some a) (a .some-data) hj hy hx ∙ closed-is-by-place m k i j y x (some a) hy hx));
+  entry-in-closed-form = e ∙ same closed (λ a hj hy hx. sym (closed-place m (pred k) i j y x (some a) hy hx));
+  entry-grown = e ∙ same grown (λ a hj hy hx. sym (grown-is-closed m k i j y x (some a) (a .some-data) hj hy hx ∙ closed-place m (pred k) i j y x (some a) hy hx));
   three-ways-one-generator = one-generator;
 }
   where

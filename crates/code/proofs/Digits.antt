@@ -1,14 +1,14 @@
 -- Rows and their digits are the same thing, and what a change of the first digits does to a row. Assumes nothing.
-use mathlib.Core.Path.{_≡_, refl, sym, ap, ap₂, _∙_, subst}
-use mathlib.Core.Logic.{_⊎_, inl, inr, ⊎-elim}
-use mathlib.Core.Bool.{Bool, true, false, cond}
-use Prim.Native.Nat.{ℕ, zero, suc, _+_, _-_, _*_, _/_, _%_, _^_, _≤_, _<_}
-use native.Mathlib.Nat.{mod-lt, pow-suc, pow-zero, div-lt-iff-lt-mul, div-add-mod', mod-eq-of-lt, div-eq-of-lt, zero-mod, zero-div}
+use mathlib.Core.Path.{_≡_, refl, sym, ap, ap₂, _∙_}
+use mathlib.Core.Logic.{⊎-elim}
+use mathlib.Core.Bool.{cond}
+use Prim.Native.Nat.{ℕ, zero, suc, _+_, _*_, _/_, _%_, _^_, _≤_, _<_}
+use native.Mathlib.Nat.{mod-lt, pow-suc, pow-zero, div-lt-iff-lt-mul, div-add-mod'}
 use native.Mathlib.Omega.{arith}
 use lib.Dec.{eqb, ltb}
 use lib.Arith.{digits-lt, digits-div, digits-mod}
-use Rattle.std.proofs.shelf.Tests.{cases-eq, cases-lt, ne-eqb, eq-eqb, lt-ltb, le-ltb, cond-true, cond-false, cond-both}
-use Rattle.code.specs.Rows.{digit, row, low, up, changed, moved, place, raised}
+use Rattle.std.proofs.shelf.Tests.{cases-eq, ne-eqb, eq-eqb, lt-ltb, le-ltb, cond-true, cond-false, cond-both}
+use Rattle.code.specs.Rows.{digit, row, changed, moved}
 
 pub digit-last : (m n y : ℕ) → digit m (suc n) n y ≡ y % m
 unfolding digit

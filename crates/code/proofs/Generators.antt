@@ -1,32 +1,29 @@
 -- The three ways to the generator give one matrix. Assumes nothing.
-use mathlib.Core.Path.{_≡_, refl, sym, ap, ap₂, _∙_, subst}
-use mathlib.Core.Logic.{_⊎_, inl, inr, ⊎-elim}
+use mathlib.Core.Path.{_≡_, refl, sym, ap, ap₂, _∙_}
+use mathlib.Core.Logic.{⊎-elim}
 use mathlib.Core.Bool.{Bool, true, false, cond, _&&_}
 use Prim.Native.Nat.{ℕ, zero, suc, pred, _+_, _-_, _*_, _/_, _%_, _^_, _≤_, _<_}
-use native.Mathlib.Nat.{mod-lt, pow-suc, pow-zero, div-lt-iff-lt-mul, div-add-mod', one-le-pow, mod-eq-of-lt, div-eq-of-lt}
+use native.Mathlib.Nat.{mod-lt, pow-suc, pow-zero, div-lt-iff-lt-mul, div-add-mod', one-le-pow, mod-eq-of-lt}
 use native.Mathlib.Omega.{arith}
 use lib.Dec.{eqb, ltb}
 use lib.Arith.{digits-div, digits-mod}
-use Rattle.std.proofs.shelf.Tests.{cases-eq, cases-lt, cases-bool, eqb-true, eqb-false, eq-eqb, ne-eqb, lt-ltb, le-ltb, cond-true, cond-false, cond-both, and-from, and-parts}
-use Rattle.std.proofs.shelf.Ways.{decides-eqb, decides-and, same-from-decides}
-use Rattle.code.specs.Rows.{digit, row, low, place}
-use Rattle.code.specs.Generator.{Matrix, Blocks, assembled, byPlace, identity, cell, kron, one, product, factor, closed, grownBy, grown, SameEntries, OneGenerator, ThreeWaysOneGenerator}
+use Rattle.std.proofs.shelf.Tests.{cases-eq, cases-lt, eqb-true, eq-eqb, ne-eqb, lt-ltb, le-ltb, cond-true, cond-false, and-from, and-parts}
+use Rattle.std.proofs.shelf.Ways.{decides-eqb, same-from-decides}
+use Rattle.code.specs.Rows.{low, place}
+use Rattle.code.specs.Generator.{Matrix, Blocks, byPlace, identity, cell, kron, product, factor, closed, grownBy, grown, SameEntries, ThreeWaysOneGenerator}
 use Rattle.code.proofs.Digits.{front-lt, moved-step, moved-lt}
 use Rattle.code.proofs.Places.{low-lt}
 
 -- a number equals q × m + d just if its front is q and its last digit is d
 split-eqb : (m x q d : ℕ) → d < m → eqb x (q * m + d) ≡ (eqb (x / m) q && eqb (x % m) d)
 split-eqb m x q d h =
-    same-from-decides (eqb x (q * m + d)) (eqb (x / m) q && eqb (x % m) d) (decides-eqb x (q * m + d))
-    (there, back)
+    same-from-decides (eqb x (q * m + d)) (eqb (x / m) q && eqb (x % m) d) (decides-eqb x (q * m + d)) (there, back)
   where
-    both : (eqb (x / m) q && eqb (x % m) d) ≡ true → x ≡ q * m + d
-    both e =
-        let parts = and-parts (eqb (x / m) q) (eqb (x % m) d) e in
-        sym (div-add-mod' x m) ∙ ap₂ (λ a b. a * m + b) (eqb-true (x / m) q (parts .0)) (eqb-true (x % m) d (parts .1))
-
     there : (eqb (x / m) q && eqb (x % m) d) ≡ true → x ≡ q * m + d
-    there = both
+    there e =
+        let parts = and-parts (eqb (x / m) q) (eqb (x % m) d) e in
+        sym (div-add-mod' x m)
+        ∙ ap₂ (λ a b. a * m + b) (eqb-true (x / m) q (parts .0)) (eqb-true (x % m) d (parts .1))
 
     back : x ≡ q * m + d → (eqb (x / m) q && eqb (x % m) d) ≡ true
     back e =
@@ -35,7 +32,7 @@ split-eqb m x q d h =
         (eq-eqb (x % m) d (ap (λ z. z % m) e ∙ digits-mod q h))
 
 -- the closed form has its 1s where place says
-closed-place : (m n i j y x : ℕ) → 0 < m → y < m ^ n → x < m ^ n → product m n (factor m i j) y x ≡ eqb x (place m n i j y)
+pub closed-place : (m n i j y x : ℕ) → 0 < m → y < m ^ n → x < m ^ n → product m n (factor m i j) y x ≡ eqb x (place m n i j y)
 unfolding product
 closed-place m zero i j y x p hy hx = sym (eq-eqb x _ (none x (place m zero i j y) (rw pow-zero at hx) (rw pow-zero at (moved-lt m zero (low m i) j y p (low-lt m i p)))))
   where
@@ -113,10 +110,6 @@ same-entries m k B C p e y x hy hx =
     let pr : 0 < r = one-le-pow (pred k) m p in
     e (y / r) (x / r) (y % r) (x % r) (div-lt-iff-lt-mul pr .1 hy) (div-lt-iff-lt-mul pr .1 hx) (mod-lt y pr) (mod-lt x pr)
 
--- block by block
-pub closed-is-by-place : (m k i j y x : ℕ) → 0 < m → y < m ^ pred k → x < m ^ pred k → closed m k i j y x ≡ byPlace m k i j y x
-closed-is-by-place m k i j y x p hy hx = closed-place m (pred k) i j y x p hy hx
-
 pub grown-is-closed : (m k i j y x : ℕ) → 0 < m → 2 ≤ k → j < k → y < m ^ pred k → x < m ^ pred k → grown m k i j y x ≡ closed m k i j y x
 grown-is-closed m zero i j y x p l lj hy hx = absurd (omega arith)
 grown-is-closed m (suc zero) i j y x p l lj hy hx = absurd (omega arith)
@@ -126,6 +119,6 @@ grown-is-closed m (suc (suc t)) i j y x p l lj hy hx =
 
 pub one-generator : ThreeWaysOneGenerator
 one-generator m k p l = record {
-  closed-form-is-by-place = same-entries m k (closed m k) (byPlace m k) p (λ i j y x _ _. closed-is-by-place m k i j y x p);
+  closed-form-is-by-place = same-entries m k (closed m k) (byPlace m k) p (λ i j y x _ _. closed-place m (pred k) i j y x p);
   grown-is-closed-form = same-entries m k (grown m k) (closed m k) p (λ i j y x _. grown-is-closed m k i j y x p l);
 }

@@ -1,14 +1,14 @@
 -- The laws of place. Assumes nothing.
-use mathlib.Core.Path.{_≡_, refl, sym, ap, _∙_, subst}
+use mathlib.Core.Path.{_≡_, refl, sym, ap, _∙_}
 use mathlib.Core.Logic.{_⊎_, inl, inr, ⊎-elim}
 use mathlib.Core.Bool.{Bool, true, false, cond}
-use Prim.Native.Nat.{ℕ, zero, suc, pred, _+_, _-_, _*_, _/_, _%_, _^_, _≤_, _<_}
-use native.Mathlib.Nat.{mod-lt, mod-eq-of-lt, add-mod-right, mod-add-mod, add-mod-mod, add-assoc, add-comm}
+use Prim.Native.Nat.{ℕ, pred, _+_, _-_, _%_, _^_, _≤_, _<_}
+use native.Mathlib.Nat.{mod-lt, mod-eq-of-lt, add-mod-right, add-comm}
 use native.Mathlib.Omega.{arith}
 use lib.Dec.{ltb}
 use Rattle.std.proofs.shelf.Tests.{cases-lt, lt-ltb, le-ltb, cond-true, cond-false}
-use Rattle.code.specs.Rows.{digit, row, low, up, changed, moved, place, raised}
-use Rattle.code.specs.PlaceLaws.{PlaceLaws, PlaceLawsHold}
+use Rattle.code.specs.Rows.{digit, low, up, changed, moved, place}
+use Rattle.code.specs.PlaceLaws.{PlaceLawsHold}
 use Rattle.code.proofs.Digits.{digit-lt, digit-moved, moved-lt, moved-after, changed-first, changed-later, Keeps, digit-ext}
 
 -- the number that stands for a modulo m, where a is below 2 m: for `omega`, which knows no remainder by a variable

@@ -1,21 +1,19 @@
 -- Digits at the front of the input, and a number before its stop. Assumes nothing.
 use mathlib.Core.Path.{_≡_, refl, sym, ap, ap₂, _∙_}
-use mathlib.Core.Logic.{⊎-elim}
 use mathlib.Core.Bool.{Bool, true, false, cond, _&&_}
-use mathlib.Core.List.{List, [], _∷_, _++_}
-use Prim.Native.Nat.{ℕ, zero, suc, _+_, _-_, _*_, _^_, _≤_, _<_}
-use native.Mathlib.Nat.{pow-suc, pow-le-pow-right, add-suc, suc-add}
+use mathlib.Core.List.{List, [], _∷_}
+use Prim.Native.Nat.{ℕ, suc, _+_, _-_, _*_, _^_, _≤_, _<_}
+use native.Mathlib.Nat.{pow-suc}
 use native.Mathlib.Numerals.{add-one}
 use native.Mathlib.Omega.{arith}
-use lib.Dec.{eqb, leb}
+use lib.Dec.{leb}
 use lib.ListN.{length, getD, take, drop}
-use Rattle.std.specs.declared.option.Option.{Option}
 use Rattle.std.specs.declared.option.Option.the-variants.{Some, None}
 use Rattle.std.specs.shelf.Lists.{All, leading}
 use Rattle.std.proofs.shelf.Elements.{all-getD}
 use Rattle.std.proofs.shelf.Lists.{drop-more, take-rest}
-use Rattle.std.proofs.shelf.Sums.{folded-more, leading-drop-yes, leading-drop-no, leading-drop-all}
-use Rattle.std.proofs.shelf.Tests.{and-parts, and-from, leb-true, le-leb, eq-eqb, cases-bool, cond-true, cond-false}
+use Rattle.std.proofs.shelf.Sums.{folded-more}
+use Rattle.std.proofs.shelf.Tests.{and-parts, and-from, leb-true, le-leb, eq-eqb, cond-true}
 use Rattle.listing.specs.declared.request.Request.{Request}
 use Rattle.listing.specs.Line.{space, newline, isDigit, valueOf, most-digits, begins, fieldAt, fieldOf, andThen, atEnd, requestOf}
 
@@ -31,9 +29,6 @@ pub value-room : (digits : List ℕ) (i v : ℕ) → i < length digits → All (
 value-room digits i v l all h =
     let d = digit-bounds (getD digits i 0) (all-getD (λ b. isDigit b ≡ true) digits i 0 l all) in
     rw (add-one, pow-suc) (omega arith)
-
-pub value-small : (i v : ℕ) → i ≤ 5 → v < 10 ^ i → v < 100000
-value-small i v l h = let p : 10 ^ i ≤ 10 ^ 5 = pow-le-pow-right {n = 10} (omega arith) {i = i} {j = 5} l in omega arith
 
 -- the digits that are counted are digits, and lie within the input
 pub leading-all : (bytes : List ℕ) → All (λ b. isDigit b ≡ true) (take (leading isDigit bytes) bytes)

@@ -1,20 +1,20 @@
 -- The reader of the input finds just the lines, and a line is short. Assumes nothing.
-use mathlib.Core.Path.{_≡_, refl, sym, ap, ap₂, _∙_, subst}
+use mathlib.Core.Path.{_≡_, refl, sym, ap, ap₂, _∙_}
 use mathlib.Core.Bool.{Bool, true, false, cond, _&&_}
-use mathlib.Core.List.{List, [], _∷_, _++_, append-assoc}
+use mathlib.Core.List.{List, [], _∷_, _++_}
 use Prim.Native.Nat.{ℕ, zero, suc, _+_, _≤_, _<_}
 use native.Mathlib.Omega.{arith}
-use lib.Dec.{eqb, leb}
+use lib.Dec.{leb}
 use lib.ListN.{length, take, drop}
 use Rattle.std.specs.declared.option.Option.{Option}
 use Rattle.std.specs.declared.option.Option.the-variants.{Some, None}
 use Rattle.std.specs.shelf.Lists.{All, leading}
 use Rattle.std.proofs.shelf.Lists.{take-append-drop, take-at, drop-at, length-append, length-take-le}
 use Rattle.std.proofs.shelf.Sums.{leading-le-length}
-use Rattle.std.proofs.shelf.Tests.{and-parts, and-from, leb-true, le-leb, eqb-true, eq-eqb, cond-true}
+use Rattle.std.proofs.shelf.Tests.{and-from, leb-true, le-leb, eqb-true, eq-eqb, cond-true}
 use Rattle.listing.specs.declared.request.Request.{Request}
 use Rattle.listing.specs.Line.{space, newline, most-digits, isDigit, valueOf, Numeral, IsLineOf, begins, fieldAt, fieldOf, andThen, atEnd, requestOf, ReaderFindsJustTheLines}
-use Rattle.listing.specs.Text.{enough, requestText, answerText, FirstBytesDecide}
+use Rattle.listing.specs.Text.{enough, requestText, FirstBytesDecide}
 use Rattle.listing.proofs.Fields.{leading-all, fields-read}
 
 -- digits before a byte that is none

@@ -12,11 +12,11 @@ use Rattle.std.proofs.shelf.Tests.{cond-true, cond-false, ltb-true, lt-ltb, le-
 use Rattle.refusal.specs.declared.Refusal.{Refusal}
 use Rattle.refusal.specs.declared.Refusal.the-variants.{PairNotAdmitted, NoSuchBox, NoSuchList, TooShort}
 use Rattle.code.specs.declared.pair.Pair.{Pair}
-use Rattle.code.specs.Pairs.{rowsOf, admitted}
+use Rattle.code.specs.Pairs.{admitted}
 use Rattle.code.proofs.Answering.{pair-admitted}
 use Rattle.lists.specs.declared.place.Place.{Place}
 use Rattle.lists.specs.ReadingLists.{gives, placesWhere, readingList, listsOf}
-use Rattle.lists.specs.Answers.{countFor, countAnswer, inRoom, listAnswer, laid, filled, listAfter}
+use Rattle.lists.specs.Answers.{countFor, inRoom, listAnswer, laid, filled, listAfter}
 use Rattle.lists.proofs.Lengths.{list-laws}
 
 -- a list that there is has its length for a count

@@ -62,30 +62,27 @@ pub rows-no : (p : ℕ → Bool) (b n : ℕ) → p n ≡ false → rowsWhere p b
 unfolding rowsWhere
 rows-no p b n e = rw add-one (ap (λ t. rowsWhere p b n ++ cond t (placeAt b n ∷ []) []) e ∙ append-nil (rowsWhere p b n))
 
--- a part of the rows, and of the boxes, is no longer than all of them
-rows-grow : (p : ℕ → Bool) (b n d : ℕ) → length (rowsWhere p b n) ≤ length (rowsWhere p b (n + d))
-unfolding rowsWhere
-rows-grow p b n zero = let e : n + 0 ≡ n = omega arith in rw e (omega arith)
-rows-grow p b n (suc d) =
+-- a list that grows at its end is no longer before than after
+grows : {X : Type 0} (F G : ℕ → List X) → ((n : ℕ) → F (suc n) ≡ F n ++ G n) → (n d : ℕ) → length (F n) ≤ length (F (n + d))
+grows F G step n zero = let e : n + 0 ≡ n = omega arith in rw e (omega arith)
+grows F G step n (suc d) =
     let e : n + suc d ≡ suc (n + d) = omega arith in
-    rw e (omega (arith, rows-grow p b n d, length-append (rowsWhere p b (n + d)) (cond (p (n + d)) (placeAt b (n + d) ∷ []) [])))
+    rw e (omega (arith, grows F G step n d, ap length (step (n + d)), length-append (F (n + d)) (G (n + d))))
+
+grown-le : {X : Type 0} (F G : ℕ → List X) → ((n : ℕ) → F (suc n) ≡ F n ++ G n) → (n more : ℕ) → n ≤ more → length (F n) ≤ length (F more)
+grown-le F G step n more l = let e : n + (more - n) ≡ more = omega arith in rw e at (grows F G step n (more - n))
 
 pub rows-le : (p : ℕ → Bool) (b n r : ℕ) → n ≤ r → length (rowsWhere p b n) ≤ length (rowsWhere p b r)
-rows-le p b n r l = let e : n + (r - n) ≡ r = omega arith in rw e at (rows-grow p b n (r - n))
+unfolding rowsWhere
+rows-le p b = grown-le (rowsWhere p b) (λ n. cond (p n) (placeAt b n ∷ []) []) (λ n. refl)
 
 pub places-more : (p : ℕ → ℕ → Bool) (r n : ℕ) → placesWhere p r (n + 1) ≡ placesWhere p r n ++ rowsWhere (p n) n r
 unfolding placesWhere
 places-more p r n = rw add-one refl
 
-places-grow : (p : ℕ → ℕ → Bool) (r n d : ℕ) → length (placesWhere p r n) ≤ length (placesWhere p r (n + d))
-unfolding placesWhere
-places-grow p r n zero = let e : n + 0 ≡ n = omega arith in rw e (omega arith)
-places-grow p r n (suc d) =
-    let e : n + suc d ≡ suc (n + d) = omega arith in
-    rw e (omega (arith, places-grow p r n d, length-append (placesWhere p r (n + d)) (rowsWhere (p (n + d)) (n + d) r)))
-
 pub places-le : (p : ℕ → ℕ → Bool) (r n boxes : ℕ) → n ≤ boxes → length (placesWhere p r n) ≤ length (placesWhere p r boxes)
-places-le p r n boxes l = let e : n + (boxes - n) ≡ boxes = omega arith in rw e at (places-grow p r n (boxes - n))
+unfolding placesWhere
+places-le p r = grown-le (placesWhere p r) (λ n. rowsWhere (p n) n r) (λ n. refl)
 
 -- the rows of box b below n that pass stand in the places from `start` on, up to `end`
 abbrev pub RowsLaid : (ℕ → Bool) → ℕ → ℕ → ℕ → List Place → List Place → ℕ → Type 0

@@ -1,20 +1,18 @@
 -- How long a reading list is. Assumes nothing.
-use mathlib.Core.Path.{_≡_, refl, sym, ap, ap₂, _∙_, subst}
-use mathlib.Core.Logic.{_⊎_, inl, inr, ⊎-elim}
+use mathlib.Core.Path.{_≡_, refl, sym, ap, ap₂, _∙_}
+use mathlib.Core.Logic.{⊎-elim}
 use mathlib.Core.Bool.{Bool, true, false, cond}
-use mathlib.Core.List.{List, [], _∷_, _++_}
+use mathlib.Core.List.{[], _∷_}
 use Prim.Native.Nat.{ℕ, zero, suc, pred, _+_, _-_, _*_, _/_, _%_, _^_, _≤_, _<_}
 use native.Mathlib.Nat.{mod-lt, mul-div-cancel}
 use native.Mathlib.Omega.{arith}
 use lib.Dec.{eqb, ltb}
 use lib.ListN.{length}
 use Rattle.std.proofs.shelf.Lists.{length-append}
-use Rattle.std.proofs.shelf.Tests.{cases-eq, cond-true, cond-false, cond-both, eq-eqb, ne-eqb, lt-ltb, le-ltb}
+use Rattle.std.proofs.shelf.Tests.{cases-eq, cond-true, cond-false, cond-both, eq-eqb, ne-eqb}
 use Rattle.code.specs.Pairs.{rowsOf}
-use Rattle.code.specs.Rows.{digit, low}
-use Rattle.lists.specs.declared.place.Place.{Place}
 use Rattle.lists.specs.ReadingLists.{firstDigitIs, differenceIs, gives, placeAt, rowsWhere, placesWhere, readingList}
-use Rattle.lists.specs.ListLaws.{ListLaws, ListLawsHold}
+use Rattle.lists.specs.ListLaws.{ListLawsHold}
 use Rattle.lists.proofs.Sums.{total, count, total-ext, count-ext, count-same, total-but-one, total-first}
 use Rattle.lists.proofs.Giving.{gives-own, gives-other, gives-parity}
 use Rattle.lists.proofs.Order.{places-rise, only-places, all-places}

@@ -1,18 +1,18 @@
 -- Each box gives one row in m: how many rows have a digit, or a difference of two digits, as a list wants it. Assumes nothing.
-use mathlib.Core.Path.{_≡_, refl, sym, ap, ap₂, _∙_}
-use mathlib.Core.Logic.{_⊎_, inl, inr, ⊎-elim}
-use mathlib.Core.Bool.{Bool, true, false, cond}
-use Prim.Native.Nat.{ℕ, zero, suc, pred, _+_, _-_, _*_, _/_, _%_, _^_, _≤_, _<_}
-use native.Mathlib.Nat.{pow-suc, pow-zero, mod-lt, mul-one, le-of-lt}
+use mathlib.Core.Path.{_≡_, sym, ap, ap₂, _∙_}
+use mathlib.Core.Logic.{⊎-elim}
+use mathlib.Core.Bool.{Bool, cond}
+use Prim.Native.Nat.{ℕ, zero, suc, pred, _+_, _*_, _^_, _<_}
+use native.Mathlib.Nat.{pow-suc, mul-one, le-of-lt}
 use native.Mathlib.Omega.{arith}
 use lib.Dec.{eqb}
 use lib.Arith.{digits-div, digits-mod}
-use Rattle.std.proofs.shelf.Tests.{cases-eq, cases-lt, eqb-true, eq-eqb}
+use Rattle.std.proofs.shelf.Tests.{cases-eq}
 use Rattle.std.proofs.shelf.Ways.{decides-eqb, decides-like, same-from-decides}
 use Rattle.code.specs.Rows.{digit, low}
 use Rattle.code.proofs.Digits.{digit-last, digit-front, digit-past, digit-lt}
 use Rattle.code.proofs.Places.{low-is, low-lt, low-none}
-use Rattle.lists.proofs.Sums.{total, count, total-ext, total-all, total-scaled, total-groups, count-ext, count-one, count-same}
+use Rattle.lists.proofs.Sums.{count, total-ext, total-all, total-scaled, total-groups, count-ext, count-one, count-same}
 
 -- a test of rows of n + 1 digits that the last digit passes at just one value, whatever the others are
 share-by-last : (m n : ℕ) (p : ℕ → Bool) (x : ℕ → ℕ) → ((q : ℕ) → x q < m) → ((q d : ℕ) → d < m → p (q * m + d) ≡ eqb d (x q)) → count (m ^ suc n) p ≡ m ^ n

@@ -1,4 +1,4 @@
-use mathlib.Core.Path.{_≡_, sym, ap, ap₂, _∙_}
+use mathlib.Core.Path.{ap₂, _∙_}
 use Prim.Native.Nat.{pred}
 use Rattle.std.proofs.shelf.Results.{err-from-errBy}
 use Rattle.code.specs.Rows.{place}

@@ -1,10 +1,9 @@
-use mathlib.Core.Path.{_≡_, refl, sym, ap, _∙_}
+use mathlib.Core.Path.{refl}
 use Prim.Native.Nat.{suc, _≤_}
 use lib.ListN.{length}
 use native.Mathlib.Omega.{arith}
 use lib.Dec.{eqb}
 use Rattle.std.proofs.shelf.Tests.{and-left, and-right, ne-eqb}
-use Rattle.code.specs.Pairs.{rowsOf}
 use Rattle.code.proofs.Admission.{admitted-true, few-data}
 use Rattle.code.proofs.Tables.{found, found-rows, passed, missed}
 use Rattle.code.proofs.table.admit.Needs as need

@@ -1,4 +1,4 @@
-use mathlib.Core.Path.{_≡_, sym, _∙_}
+use mathlib.Core.Path.{sym, _∙_}
 use Rattle.std.proofs.shelf.Tests.{eqb-true, eqb-false}
 use Rattle.listing.proofs.Fields.{fields-read, at-end, not-at-end}
 use Rattle.listing.proofs.line.parse.Needs as need

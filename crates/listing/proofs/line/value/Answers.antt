@@ -1,12 +1,10 @@
-use mathlib.Core.Path.{_≡_, sym, ap, _∙_}
+use mathlib.Core.Path.{_≡_, ap, _∙_}
 use mathlib.Core.Bool.{true}
-use native.Mathlib.Omega.{arith}
-use borrow.Author.Needs.{needs}
-use lib.ListN.{length, getD}
+use lib.ListN.{getD}
 use Rattle.std.proofs.shelf.Elements.{all-getD}
 use Rattle.std.proofs.shelf.Lists.{take-all}
 use Rattle.listing.specs.Line.{isDigit, valueOf}
-use Rattle.listing.proofs.Fields.{digit-bounds, value-more, value-room, value-small}
+use Rattle.listing.proofs.Fields.{digit-bounds, value-more, value-room}
 use Rattle.listing.proofs.line.value.Needs as need
 
 pub sub-value : need.sub-value

@@ -1,5 +1,4 @@
 use Prim.Native.Nat.{_+_}
-use native.Mathlib.Omega.{arith}
 use Rattle.lists.specs.ReadingLists.{gives}
 use Rattle.lists.proofs.Laying.{boxes-laid-none, boxes-room, boxes-laid-more}
 use Rattle.lists.proofs.fills.fill.Needs as need

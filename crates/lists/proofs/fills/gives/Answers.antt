@@ -1,8 +1,7 @@
-use mathlib.Core.Path.{_≡_, sym, ap}
+use mathlib.Core.Path.{sym}
 use Prim.Native.Nat.{ℕ, pred, _-_, _<_}
 use native.Mathlib.Omega.{arith}
-use Rattle.code.specs.declared.pair.Pair.{Pair}
-use Rattle.code.specs.Rows.{digit, held}
+use Rattle.code.specs.Rows.{held}
 use Rattle.code.proofs.Digits.{digit-lt}
 use Rattle.lists.proofs.Giving.{gives-own, gives-parity, gives-later, gives-first-data, gives-first-parity}
 use Rattle.lists.proofs.fills.gives.Needs as need

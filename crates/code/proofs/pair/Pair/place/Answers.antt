@@ -1,7 +1,6 @@
-use mathlib.Core.Path.{_≡_, sym, ap, _∙_}
-use Prim.Native.Nat.{_≤_, pred}
+use mathlib.Core.Path.{_∙_}
+use Prim.Native.Nat.{pred}
 use native.Mathlib.Omega.{arith}
-use Rattle.code.specs.Pairs.{rowsOf}
 use Rattle.code.specs.Rows.{place}
 use Rattle.code.specs.Answers.{inside}
 use Rattle.code.proofs.Digits.{digit-lt}
