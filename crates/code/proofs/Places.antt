@@ -3,7 +3,7 @@ use mathlib.Core.Path.{_≡_, refl, sym, ap, _∙_}
 use mathlib.Core.Logic.{_⊎_, inl, inr, ⊎-elim}
 use mathlib.Core.Bool.{Bool, true, false, cond}
 use Prim.Native.Nat.{ℕ, pred, _+_, _-_, _%_, _^_, _≤_, _<_}
-use native.Mathlib.Nat.{mod-lt, mod-eq-of-lt, add-mod-right, add-comm}
+use native.Mathlib.Nat.{add-zero, zero-add, mod-lt, mod-eq-of-lt, add-mod-right, add-comm}
 use native.Mathlib.Omega.{arith}
 use lib.Dec.{ltb}
 use Rattle.std.proofs.shelf.Tests.{cases-lt, lt-ltb, le-ltb, cond-true, cond-false}
@@ -86,6 +86,16 @@ twice m n h i j l y t p lt =
     digit-moved m n (low m h) j (place m n i l y) t p (low-lt m h p) lt
     ∙ ap (λ d. cond (ltb t j) (low m h d) d) (digit-moved m n (low m i) l y t p (low-lt m i p) lt)
 
+low-mod : (m i a : ℕ) → i < m → low m i a ≡ low m (i % m) a
+low-mod m i a h = ap (λ x. low m x a) (sym (mod-eq-of-lt h))
+
+summed : (m h i : ℕ) (b c : Bool) (a : ℕ) → h < m → i < m → a < m
+    → cond b (low m h (cond c (low m i a) a)) (cond c (low m i a) a) ≡ low m ((cond b h 0 + cond c i 0) % m) a
+summed m h i true true a hm im am = low-add m h i a hm im am
+summed m h i true false a hm im am = low-mod m h a hm ∙ ap (λ x. low m (x % m) a) (sym (add-zero h))
+summed m h i false true a hm im am = low-mod m i a im ∙ ap (λ x. low m (x % m) a) (sym (zero-add i))
+summed m h i false false a hm im am = sym (low-none m a am) ∙ low-mod m 0 a (omega arith)
+
 same-twice : (m h i : ℕ) (b c : Bool) (a : ℕ) → h < m → i < m → a < m
     → cond b (low m h (cond c (low m i a) a)) (cond c (low m i a) a) ≡ cond c (low m i (cond b (low m h a) a)) (cond b (low m h a) a)
 same-twice m h i true true a hm im am = low-swap m h i a hm im am
@@ -110,6 +120,8 @@ place-laws m k p _ = record {
   lowering-twice-adds-up = λ h i j y hm im lt. let s : ℕ = (h + i) % m in
       digit-ext m n _ _ p (moved-lt m n (low m h) j (place m n i j y) p (low-lt m h p)) (moved-lt m n (low m s) j y p (low-lt m s p))
       (λ t l. twice m n h i j j y t p l ∙ added m h i (ltb t j) (digit m n t y) hm im (digit-lt m n t y p) ∙ sym (digit-moved m n (low m s) j y t p (low-lt m s p) l));
+  lowerings-add-up-digit-by-digit = λ h i j l y t hm im lt.
+      twice m n h i j l y t p lt ∙ summed m h i (ltb t j) (ltb t l) (digit m n t y) hm im (digit-lt m n t y p);
   lowerings-change-places = λ h i j l y hm im lt.
       digit-ext m n _ _ p (moved-lt m n (low m h) j (place m n i l y) p (low-lt m h p)) (moved-lt m n (low m i) l (place m n h j y) p (low-lt m i p))
       (λ t lt′. twice m n h i j l y t p lt′ ∙ same-twice m h i (ltb t j) (ltb t l) (digit m n t y) hm im (digit-lt m n t y p) ∙ sym (twice m n i h l j y t p lt′));

@@ -3,13 +3,13 @@ use mathlib.Core.Path.{_≡_, refl, sym, ap, subst, _∙_}
 use mathlib.Core.Logic.{⊎-elim}
 use mathlib.Core.Bool.{cond}
 use mathlib.Core.List.{List}
-use Prim.Native.Nat.{ℕ, suc, pred, _+_, _-_, _/_, _%_, _≤_, _<_}
+use Prim.Native.Nat.{ℕ, suc, pred, _-_, _/_, _%_, _≤_, _<_}
 use native.Mathlib.Nat.{lt-of-lt-of-le, pow-le-pow-right}
 use native.Mathlib.Omega.{arith}
 use lib.Dec.{ltb}
 use lib.ListN.{length, getD, set}
 use Rattle.std.proofs.shelf.Lists.{length-set, getD-set-same, getD-set-other}
-use Rattle.std.proofs.shelf.Tests.{cases-eq, cases-lt, cond-true, cond-false, lt-ltb, le-ltb}
+use Rattle.std.proofs.shelf.Tests.{cases-eq}
 use Rattle.code.specs.Pairs.{rowsOf}
 use Rattle.code.specs.Rows.{digit, row, low}
 use Rattle.code.proofs.Digits.{digit-last, digit-front, digit-past, row-lt}
@@ -49,23 +49,6 @@ written-turn m n y t rest digits p l w =
 -- the first t digits are lowered
 abbrev pub Lowered : ℕ → ℕ → ℕ → List ℕ → List ℕ → Type 0
 Lowered m i t digits now′ = (length now′ ≡ 11) × ((s : ℕ) → getD now′ s 0 ≡ cond (ltb s t) (low m i (getD digits s 0)) (getD digits s 0))
-
-pub lowered-none : (m i : ℕ) (digits : List ℕ) → length digits ≡ 11 → Lowered m i 0 digits digits
-lowered-none m i digits e = (e, λ s. sym (cond-false (ltb s 0) _ _ (le-ltb s 0 (omega arith))))
-
-pub lowered-more : (m i t : ℕ) (digits now′ : List ℕ) → t < 11 → Lowered m i t digits now′ → Lowered m i (t + 1) digits (set now′ t (low m i (getD digits t 0)))
-lowered-more m i t digits now′ l w = (length-set now′ t _ ∙ w .0, place)
-  where
-    place : (s : ℕ) → getD (set now′ t (low m i (getD digits t 0))) s 0 ≡ cond (ltb s (t + 1)) (low m i (getD digits s 0)) (getD digits s 0)
-    place s = at-set now′ t (low m i (getD digits t 0)) s (λ d. d ≡ cond (ltb s (t + 1)) (low m i (getD digits s 0)) (getD digits s 0)) (omega (arith, w .0))
-        (λ e. ap (λ i′. low m i (getD digits i′ 0)) (sym e) ∙ sym (cond-true (ltb s (t + 1)) _ _ (lt-ltb s (t + 1) (omega arith))))
-        (λ ne. w .1 s ∙ ⊎-elim (before ne) (after ne) (cases-lt s t))
-      where
-        before : (s ≡ t → ⊥) → s < t → cond (ltb s t) (low m i (getD digits s 0)) (getD digits s 0) ≡ cond (ltb s (t + 1)) (low m i (getD digits s 0)) (getD digits s 0)
-        before ne h = cond-true (ltb s t) _ _ (lt-ltb s t h) ∙ sym (cond-true (ltb s (t + 1)) _ _ (lt-ltb s (t + 1) (omega arith)))
-
-        after : (s ≡ t → ⊥) → t ≤ s → cond (ltb s t) (low m i (getD digits s 0)) (getD digits s 0) ≡ cond (ltb s (t + 1)) (low m i (getD digits s 0)) (getD digits s 0)
-        after ne h = cond-false (ltb s t) _ _ (le-ltb s t h) ∙ sym (cond-false (ltb s (t + 1)) _ _ (le-ltb s (t + 1) (omega arith)))
 
 -- a row folded so far is no larger than the rows of the pair
 pub folded-few : (m k t : ℕ) (a : ℕ → ℕ) → 0 < m → ((s : ℕ) → a s < m) → t ≤ pred k → row m t a < rowsOf m k

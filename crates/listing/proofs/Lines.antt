@@ -163,6 +163,6 @@ long-is-no-line input l = go (requestOf input) refl
         over : length input < enough → ⊥
         over h = omega arith
 
-pub first-bytes-decide : FirstBytesDecide
+pub first-bytes-decide : FirstBytesDecide enough
 first-bytes-decide input more l =
     ap requestText (long-is-no-line (input ++ more) (omega (arith, length-append input more)) ∙ sym (long-is-no-line input l))

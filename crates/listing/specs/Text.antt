@@ -43,9 +43,10 @@ requestText (Some q) = countedText (readingList (q .m) (q .k) (q .lost) (q .list
 abbrev pub answerText : List ℕ → List ℕ
 answerText input = requestText (requestOf input)
 
--- the first 25 bytes of an input decide: a line has at most 24
+-- a line has at most 24 bytes
 abbrev pub enough : ℕ
 enough = 25
 
-abbrev pub FirstBytesDecide : Type 0
-FirstBytesDecide = (input more : List ℕ) → enough ≤ length input → answerText (input ++ more) ≡ answerText input
+-- the first n bytes of an input decide what is answered to it
+abbrev pub FirstBytesDecide : ℕ → Type 0
+FirstBytesDecide n = (input more : List ℕ) → n ≤ length input → answerText (input ++ more) ≡ answerText input

@@ -4,5 +4,5 @@ mod request;
 mod text;
 
 pub use request::Request;
-pub use text::ENOUGH;
 pub use text::answer;
+pub use text::deciding_bytes;

@@ -6,7 +6,7 @@ ghost use Rattle.std.specs.declared.result.Result.the-variants.{Ok};
 ghost use Rattle.lists.specs.ReadingLists.{readingList};
 ghost use Rattle.lists.specs.Answers.{countAnswer};
 ghost use Rattle.listing.specs.Line.{ReaderFindsJustTheLines};
-ghost use Rattle.listing.specs.Text.{refusedText, placesText, answerText, FirstBytesDecide};
+ghost use Rattle.listing.specs.Text.{refusedText, placesText, answerText, enough, FirstBytesDecide};
 use crate::line::parse;
 use crate::request::Request;
 use lists::Place;
@@ -15,9 +15,6 @@ use lists::list;
 use refusal::Refusal;
 use std::alloc::AllocError;
 use std::alloc::Global;
-
-// How many bytes of an input are enough to answer it.
-pub const ENOUGH: usize = 25;
 
 // A refusal as it is printed.
 fn refused(heap: Global, refusal: Refusal) -> Result<String, AllocError>
@@ -63,11 +60,18 @@ fn listed(heap: Global, request: &Request, n: usize) -> Result<String, AllocErro
     }
 }
 
+// How many bytes of an input decide what is printed for it, so that no more need be read.
+pub fn deciding_bytes() -> usize
+    ensures count { λ r. ⌜ r ≡ enough ⌝ }
+    ensures first_bytes_decide { λ r. ⌜ FirstBytesDecide r ⌝ }
+{
+    25
+}
+
 // What is printed for an input. The only error is want of memory.
 pub fn answer(heap: Global, input: &[u8]) -> Result<String, AllocError>
     ensures text { λ r. ⌜ made r (λ s. string-bytes s ≡ answerText (now (input .entry))) ⌝ }
     ensures reader_finds_just_the_lines { λ _. ⌜ ReaderFindsJustTheLines ⌝ }
-    ensures first_bytes_decide { λ _. ⌜ FirstBytesDecide ⌝ }
 {
     let Some(request) = parse(input) else {
         return refused(heap, Refusal::NotOneLine);

@@ -6,19 +6,16 @@ pub returns-in-rest : need.returns-in-rest
 returns-in-rest c = record {
   text = search needs;
   reader-finds-just-the-lines = lines.reader-finds-just-the-lines;
-  first-bytes-decide = lines.first-bytes-decide;
 }
 
 pub returns-in-Ok : need.returns-in-Ok
 returns-in-Ok c = record {
   text = search needs;
   reader-finds-just-the-lines = lines.reader-finds-just-the-lines;
-  first-bytes-decide = lines.first-bytes-decide;
 }
 
 pub returns-in-Err : need.returns-in-Err
 returns-in-Err c = record {
   text = search needs;
   reader-finds-just-the-lines = lines.reader-finds-just-the-lines;
-  first-bytes-decide = lines.first-bytes-decide;
 }
