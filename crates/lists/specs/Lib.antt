@@ -1,3 +1,4 @@
 pub mod ReadingLists
+pub mod Readings
 pub mod ListLaws
 pub mod Answers
