@@ -74,12 +74,12 @@ agrees-below table (suc l) n m k e lm lk =
     (λ h. let q : l ≡ m = omega arith in rw q at (agrees-at-below table l n k (parts .0) lk))
     (cases-lt m l)
 
-pub table-rule : (table : List Sizes) → table ≡ pairsOf 2 10 ++ (pairsOf 3 6 ++ pairsOf 4 5) → length table ≡ 21 → every table ≡ true → agrees table 5 12 ≡ true → TableRule table
+pub table-rule : (table : List Sizes) → table ≡ pairsOf 2 10 ++ (pairsOf 3 6 ++ pairsOf 4 5) → length table ≡ 21 → every table ≡ true → agrees table (suc most-parity) (suc most-data) ≡ true → TableRule table
 table-rule table o n e a = record {
   in-order = o;
   there-are-21 = n;
   each-r-is-the-power = powers table e;
-  holds-exactly-the-admitted = λ m k. ⊎-elim (many-parity m k) (λ lm. ⊎-elim (many-data m k) (λ lk. agrees-below table 5 12 m k a (omega arith) (omega arith)) (cases-lt most-data k)) (cases-lt most-parity m);
+  holds-exactly-the-admitted = λ m k. ⊎-elim (many-parity m k) (λ lm. ⊎-elim (many-data m k) (λ lk. agrees-below table (suc most-parity) (suc most-data) m k a (omega arith) (omega arith)) (cases-lt most-data k)) (cases-lt most-parity m);
 }
   where
     many-parity : (m k : ℕ) → most-parity < m → has table m k ≡ admitted m k

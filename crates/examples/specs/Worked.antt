@@ -3,12 +3,14 @@ use mathlib.Core.Path.{_≡_}
 use mathlib.Core.List.{List, [], _∷_, map}
 use Prim.Native.Nat.{ℕ}
 use lib.Chars.{codes}
+use lib.ListN.{length}
 use Rattle.std.specs.Joined.{joined}
 use Rattle.std.specs.declared.result.Result.the-variants.{Ok}
 use Rattle.std.specs.shelf.Lists.{All}
 use Rattle.code.specs.Answers.{placeAnswer}
 use Rattle.lists.specs.declared.place.Place.{Place}
 use Rattle.lists.specs.ReadingLists.{placeAt, readingList}
+use Rattle.lists.specs.Answers.{countAnswer}
 use Rattle.listing.specs.Text.{answerText}
 
 pub data Example : Type 0 where
@@ -26,7 +28,7 @@ places boxes = joined (λ box. map (placeAt (box .0)) (box .1)) boxes
 -- the definitions give the example
 abbrev pub Given : Example → Type 0
 Given (place-is m k i j y x) = placeAnswer m k i j y ≡ Ok x
-Given (list-is m k f c boxes) = readingList m k f c ≡ places boxes
+Given (list-is m k f c boxes) = (readingList m k f c ≡ places boxes) × (countAnswer m k f c ≡ Ok (length (places boxes)))
 Given (prints input text) = answerText input ≡ text
 
 abbrev nines : List ℕ

@@ -51,7 +51,7 @@ mod tests {
     #[test]
     fn places_and_their_refusals() -> Result<(), Fail> {
         let cases = [
-            // raising would give 2 and 7
+            // raising would give 8 and 6
             ((3, 3, 1, 1, 5), Ok(2)),
             ((3, 3, 1, 2, 5), Ok(1)),
             ((4, 6, 3, 5, 1023), Ok(0)),

@@ -44,16 +44,13 @@ pub begins-there : (n stop : ℕ) (bytes : List ℕ) → n < length bytes → ge
 begins-there n stop bytes l e = ap (begins stop) (drop-more bytes n 0 l) ∙ eq-eqb (getD bytes n 0) stop e
 
 -- the field that is found
-pub field-found : (n v stop : ℕ) (bytes : List ℕ) → n ≡ leading isDigit bytes → (n ≡ 0 → ⊥) → n ≤ 5 → n < length bytes → getD bytes n 0 ≡ stop → v ≡ valueOf (take (n - 0) bytes)
+pub field-found : (n v stop : ℕ) (bytes : List ℕ) → n ≡ leading isDigit bytes → (n ≡ 0 → ⊥) → n ≤ most-digits → n < length bytes → getD bytes n 0 ≡ stop → v ≡ valueOf (take n bytes)
     → fieldOf stop bytes ≡ Some (v, take (length bytes - (n + 1)) (drop (n + 1) bytes))
 field-found n v stop bytes e some few l at is =
     ap (λ i. fieldAt i stop bytes) (sym e)
     ∙ cond-true (leb 1 n && (leb n most-digits && begins stop (drop n bytes))) (Some (valueOf (take n bytes), drop (suc n) bytes)) None
     (and-from (leb 1 n) _ (le-leb 1 n (omega arith)) (and-from (leb n most-digits) (begins stop (drop n bytes)) (le-leb n most-digits few) (begins-there n stop bytes l at)))
-    ∙ ap₂ (λ x y. Some (x, y)) (sym (is ∙ ap (λ i. valueOf (take i bytes)) less)) (ap (λ i. drop i bytes) (sym (add-one n)) ∙ sym (take-rest bytes (n + 1)))
-  where
-    less : n - 0 ≡ n
-    less = omega arith
+    ∙ ap₂ (λ x y. Some (x, y)) (sym is) (ap (λ i. drop i bytes) (sym (add-one n)) ∙ sym (take-rest bytes (n + 1)))
 
 -- four fields, one after the other
 pub fields-read : (input first second third fourth : List ℕ) (m k f c : ℕ) → fieldOf space input ≡ Some (m, first) → fieldOf space first ≡ Some (k, second)

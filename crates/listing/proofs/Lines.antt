@@ -2,14 +2,15 @@
 use mathlib.Core.Path.{_≡_, refl, sym, ap, ap₂, _∙_}
 use mathlib.Core.Bool.{Bool, true, false, cond, _&&_}
 use mathlib.Core.List.{List, [], _∷_, _++_}
-use Prim.Native.Nat.{ℕ, zero, suc, _+_, _≤_, _<_}
+use Prim.Native.Nat.{ℕ, suc, _+_, _≤_, _<_}
+use native.Mathlib.Numerals.{add-one}
 use native.Mathlib.Omega.{arith}
 use lib.Dec.{leb}
 use lib.ListN.{length, take, drop}
 use Rattle.std.specs.declared.option.Option.{Option}
 use Rattle.std.specs.declared.option.Option.the-variants.{Some, None}
 use Rattle.std.specs.shelf.Lists.{All, leading}
-use Rattle.std.proofs.shelf.Lists.{take-append-drop, take-at, drop-at, length-append, length-take-le}
+use Rattle.std.proofs.shelf.Lists.{take-append-drop, take-at, drop-at, drop-drop, length-append, length-take-le}
 use Rattle.std.proofs.shelf.Sums.{leading-le-length}
 use Rattle.std.proofs.shelf.Tests.{and-from, leb-true, le-leb, eqb-true, eq-eqb, cond-true}
 use Rattle.listing.specs.declared.request.Request.{Request}
@@ -26,9 +27,12 @@ leading-front (b ∷ digits) stop rest all no′ =
     more : (n : ℕ) → 1 + n ≡ suc n
     more n = omega arith
 
+drop-next : (n : ℕ) (xs : List ℕ) → drop 1 (drop n xs) ≡ drop (suc n) xs
+drop-next n xs = drop-drop 1 n xs ∙ ap (λ i. drop i xs) (add-one n)
+
 drop-past : (digits : List ℕ) (stop : ℕ) (rest : List ℕ) → drop (suc (length digits)) (digits ++ stop ∷ rest) ≡ rest
-drop-past [] stop rest = refl
-drop-past (b ∷ digits) stop rest = drop-past digits stop rest
+drop-past digits stop rest =
+    sym (drop-next (length digits) (digits ++ stop ∷ rest)) ∙ ap (drop 1) (drop-at digits (stop ∷ rest) (length digits) refl)
 
 field-of-numeral : (digits : List ℕ) (stop : ℕ) (rest : List ℕ) → Numeral digits → isDigit stop ≡ false → fieldOf stop (digits ++ stop ∷ rest) ≡ Some (valueOf digits, rest)
 field-of-numeral digits stop rest num no′ =
@@ -50,12 +54,6 @@ pub record Field (stop : ℕ) (bytes : List ℕ) (v : ℕ) (rest : List ℕ) : T
 begins-tells : (stop : ℕ) (xs : List ℕ) → begins stop xs ≡ true → xs ≡ stop ∷ drop 1 xs
 begins-tells stop [] e = let z : _≡_ {A = ℕ} 0 1 = cc in absurd (omega arith)
 begins-tells stop (x ∷ xs) e = ap (λ y. y ∷ xs) (eqb-true x stop e)
-
-drop-next : (n : ℕ) (xs : List ℕ) → drop 1 (drop n xs) ≡ drop (suc n) xs
-drop-next zero [] = refl
-drop-next zero (x ∷ xs) = refl
-drop-next (suc n) [] = refl
-drop-next (suc n) (x ∷ xs) = drop-next n xs
 
 field-tells : (stop : ℕ) (bytes : List ℕ) (x : ℕ × List ℕ) → fieldOf stop bytes ≡ Some x → Field stop bytes (x .0) (x .1)
 field-tells stop bytes x e = go (leb 1 n) (leb n most-digits) (begins stop (drop n bytes)) refl refl refl e

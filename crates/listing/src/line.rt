@@ -6,7 +6,7 @@ ghost use lib.ListN.{length};
 ghost use Rattle.std.specs.Options.{Cases};
 ghost use Rattle.std.specs.declared.option.Option.the-variants.{Some, None};
 ghost use Rattle.std.specs.shelf.Lists.{All, leading};
-ghost use Rattle.listing.specs.Line.{isDigit, valueOf, fieldOf, requestOf};
+ghost use Rattle.listing.specs.Line.{most-digits, isDigit, valueOf, fieldOf, requestOf};
 use crate::request::Request;
 
 // The most digits of a number.
@@ -28,7 +28,7 @@ fn digits_ahead(input: &[u8]) -> usize
 
 // The number that up to five digits write.
 fn value(digits: &[u8]) -> usize
-    requires { ⌜ All (λ b. isDigit b ≡ true) (now digits) ⌝ ∗ ⌜ length (now digits) ≤ 5 ⌝ }
+    requires { ⌜ All (λ b. isDigit b ≡ true) (now digits) ⌝ ∗ ⌜ length (now digits) ≤ most-digits ⌝ }
     ensures { λ r. ⌜ r ≡ valueOf (now (digits .entry)) ⌝ }
 {
     let mut value = 0;
@@ -46,7 +46,7 @@ fn field(input: &[u8], stop: u8) -> Option<(usize, &[u8])>
     if n == 0 || n > MOST_DIGITS || n == input.len() || input[n] != stop {
         return None;
     }
-    Some((value(&input[0..n]), &input[n + 1..]))
+    Some((value(&input[..n]), &input[n + 1..]))
 }
 
 // What the line asks for, where the input is one line of four numbers.

@@ -56,7 +56,7 @@ fn listed(heap: Global, request: &Request, n: usize) -> Result<String, AllocErro
         places.as_mut_slice(),
     ) {
         Ok(_) => printed(heap, places.as_slice()),
-        Err(refusal) => refused(heap, refusal),
+        Err(_) => unreachable(),
     }
 }
 

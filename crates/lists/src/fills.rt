@@ -14,10 +14,11 @@ impl Reading {
     pub(crate) fn of(pair: Pair, lost: usize, c: usize) -> Result<Self, Refusal>
         ensures { λ r. ⌜ Finds pair lost c r ⌝ }
     {
-        if lost >= pair.m + pair.k {
+        let boxes = pair.m + pair.k;
+        let lists = if lost < pair.k { pair.m } else { 1 };
+        if lost >= boxes {
             return Err(Refusal::NoSuchBox);
         }
-        let lists = if lost < pair.k { pair.m } else { 1 };
         if c >= lists {
             return Err(Refusal::NoSuchList);
         }

@@ -8,11 +8,11 @@ pub enum Refusal {
     PairNotAdmitted,
     // a parity number, a data box or a row lies outside its range
     IndexOutOfRange,
-    // the rack or the stripe has no such box
+    // there is no such box
     NoSuchBox,
     // the lost box has no reading list of that number
     NoSuchList,
-    // the memory that the caller lent has too few entries
+    // the list that the caller brought has too few entries
     TooShort,
     // the program's input is not one line of four numbers
     NotOneLine,

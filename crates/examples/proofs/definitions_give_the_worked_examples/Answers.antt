@@ -7,4 +7,4 @@ use Rattle.examples.proofs.definitions_give_the_worked_examples.Needs as need
 
 pub returns : need.returns
 unfolding digits rowsOf admitted digit row moved gives rowsWhere placesWhere readingList
-returns c = (refl, (refl, (refl, (refl, (refl, (refl, (refl, tt)))))))
+returns c = (refl, (refl, (refl, (refl, ((refl, refl), ((refl, refl), (refl, tt)))))))

@@ -1,5 +1,4 @@
 use mathlib.Core.Path.{_≡_, sym, subst}
-use Prim.Native.Nat.{_-_}
 use native.Mathlib.Omega.{arith}
 use borrow.Author.Needs.{needs}
 use lib.ListN.{take}
@@ -19,9 +18,10 @@ part-value-end c = let h = leading-le-length isDigit (c .args .input .now) in se
 
 pub value-requires : need.value-requires
 value-requires c κs =
-    let n = c .digits-ahead-n .result in
-    let less : n - 0 ≡ n = omega arith in
-    rw less (subst (λ i. All (λ b. isDigit b ≡ true) (take i (c .args .input .now))) (sym (c .digits-ahead-n .ensures)) (leading-all (c .args .input .now)), omega (arith, length-take n (c .args .input .now)))
+    let n = c .digits-ahead-n .result in (
+      subst (λ i. All (λ b. isDigit b ≡ true) (take i (c .args .input .now))) (sym (c .digits-ahead-n .ensures)) (leading-all (c .args .input .now)),
+      omega (arith, length-take n (c .args .input .now)),
+    )
 
 pub part-result-count : need.part-result-count
 part-result-count c = omega (arith, c .digits-ahead-n .ensures, leading-le-length isDigit (c .args .input .now), c .if-n-input .left)

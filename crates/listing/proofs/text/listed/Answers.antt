@@ -5,8 +5,8 @@ use Rattle.listing.specs.Text.{placesText}
 use Rattle.listing.proofs.Texts.{list-in-vec}
 use Rattle.listing.proofs.text.listed.Needs as need
 
-pub returns-in-Ok : need.returns-in-Ok
-returns-in-Ok c =
+pub returns : need.returns
+returns c =
     let q = c .args .request .now in
     let v = c .in-Continue-places .places in
     subst (λ xs. made (c .printed .result) (λ s. string-bytes s ≡ placesText xs))

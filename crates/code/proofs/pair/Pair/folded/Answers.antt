@@ -5,14 +5,15 @@ use native.Mathlib.Numerals.{add-one}
 use native.Mathlib.Omega.{arith}
 use Rattle.std.proofs.shelf.Bits.{mul-le}
 use Rattle.code.specs.declared.pair.Pair.{Pair}
+use Rattle.code.specs.Pairs.{most-parity, most-rows}
 use Rattle.code.specs.Rows.{row, held}
 use Rattle.code.proofs.Turns.{folded-few}
 use Rattle.code.proofs.pair.Pair.folded.Needs as need
 
-small : (p : Pair) (digits : List ℕ) (t y : ℕ) → ((s : ℕ) → held digits s < p .m) → t < p .k - 1 → y ≡ row (p .m) t (held digits) → y * p .m + held digits t ≤ 5000
+small : (p : Pair) (digits : List ℕ) (t y : ℕ) → ((s : ℕ) → held digits s < p .m) → t < p .k - 1 → y ≡ row (p .m) t (held digits) → y * p .m + held digits t ≤ most-rows * most-parity + most-parity
 small p digits t y h l e =
     let few = folded-few (p .m) (p .k) t (held digits) (omega arith) h (omega arith) in
-    omega (arith, mul-le y (p .m) 1024 4 (omega arith) (omega arith), h t)
+    omega (arith, mul-le y (p .m) most-rows most-parity (omega arith) (omega arith), h t)
 
 pub loop-t-holds : need.loop-t-holds
 unfolding row
