@@ -10,7 +10,7 @@ use Rattle.std.specs.declared.result.Result.{Result}
 use Rattle.std.specs.declared.result.Result.the-variants.{Ok, Err}
 use Rattle.std.proofs.shelf.Tests.{and-from, and-parts, and-left, and-right, le-leb, lt-ltb, le-ltb, ltb-true, cond-true, cond-false}
 use Rattle.refusal.specs.declared.Refusal.{Refusal}
-use Rattle.refusal.specs.declared.Refusal.the-variants.{PairNotAdmitted, IndexOutOfRange}
+use Rattle.refusal.specs.Numbers.{numbered}
 use Rattle.code.specs.declared.pair.Pair.{Pair}
 use Rattle.code.specs.Pairs.{most-parity, most-rows, rowsOf, admitted}
 use Rattle.code.specs.Rows.{digit, row, held, low, changed, moved, place}
@@ -31,14 +31,14 @@ pair-admitted p =
 
 -- the three answers
 module _ {X : Type 0} (m k : ℕ) (inside′ : Bool) (x : X) where
-  pub refused-pair : admitted m k ≡ false → Err PairNotAdmitted ≡ checked m k inside′ x
-  refused-pair a = sym (cond-false (admitted m k) (cond inside′ (Ok x) (Err IndexOutOfRange)) (Err PairNotAdmitted) a)
+  pub refused-pair : admitted m k ≡ false → _≡_ {A = Result X ℕ} (Err 2) (checked m k inside′ x)
+  refused-pair a = sym (cond-false (admitted m k) (cond inside′ (Ok x) (Err 3)) (Err 2) a)
 
-  pub refused-index : admitted m k ≡ true → inside′ ≡ false → Err IndexOutOfRange ≡ checked m k inside′ x
-  refused-index a e = sym (cond-true (admitted m k) (cond inside′ (Ok x) (Err IndexOutOfRange)) (Err PairNotAdmitted) a ∙ cond-false inside′ (Ok x) (Err IndexOutOfRange) e)
+  pub refused-index : admitted m k ≡ true → inside′ ≡ false → _≡_ {A = Result X ℕ} (Err 3) (checked m k inside′ x)
+  refused-index a e = sym (cond-true (admitted m k) (cond inside′ (Ok x) (Err 3)) (Err 2) a ∙ cond-false inside′ (Ok x) (Err 3) e)
 
   pub accepted : admitted m k ≡ true → inside′ ≡ true → Ok x ≡ checked m k inside′ x
-  accepted a e = sym (cond-true (admitted m k) (cond inside′ (Ok x) (Err IndexOutOfRange)) (Err PairNotAdmitted) a ∙ cond-true inside′ (Ok x) (Err IndexOutOfRange) e)
+  accepted a e = sym (cond-true (admitted m k) (cond inside′ (Ok x) (Err 3)) (Err 2) a ∙ cond-true inside′ (Ok x) (Err 3) e)
 
 -- where each index lies, and what its test says
 module _ (m k i j y : ℕ) where
@@ -76,9 +76,9 @@ lowered-lt m i j t a b p h e = rw e (go (ltb t j))
 
 -- two answers that agree where they are given
 checked-same : {X : Type 0} (m k : ℕ) (b : Bool) (x z : X) → (admitted m k ≡ true → b ≡ true → x ≡ z) → checked m k b x ≡ checked m k b z
-checked-same m k b x z e = go (admitted m k) b e
+checked-same {X} m k b x z e = go (admitted m k) b e
   where
-    go : (a c : Bool) → (a ≡ true → c ≡ true → x ≡ z) → cond a (cond c (Ok x) (Err IndexOutOfRange)) (Err PairNotAdmitted) ≡ cond a (cond c (Ok z) (Err IndexOutOfRange)) (Err PairNotAdmitted)
+    go : (a c : Bool) → (a ≡ true → c ≡ true → x ≡ z) → _≡_ {A = Result X ℕ} (cond a (cond c (Ok x) (Err 3)) (Err 2)) (cond a (cond c (Ok z) (Err 3)) (Err 2))
     go true true h = ap Ok (h refl refl)
     go true false h = refl
     go false c h = refl
@@ -93,7 +93,7 @@ entry-of-block generator m k i y j x hy hx =
     ∙ ap (λ b. generator m k ((i * r + y) / r) ((j * r + x) / r) ((i * r + y) % r) b) (sym (digits-mod j hx))
 
 -- one equation gives the whole promise
-pub generator-entry : (m k i y j x : ℕ) (answer : Result Bool Refusal) → answer ≡ entryAnswer m k i y j x (eqb x (place m (pred k) i j y)) → GeneratorEntry m k i y j x answer
+pub generator-entry : (m k i y j x : ℕ) (answer : Result Bool Refusal) → numbered answer ≡ entryAnswer m k i y j x (eqb x (place m (pred k) i j y)) → GeneratorEntry m k i y j x answer
 unfolding rowsOf
 generator-entry m k i y j x answer e = record {
   whether-x-is-the-place = e;
@@ -118,14 +118,14 @@ generator-entry m k i y j x answer e = record {
 pub checked-ok : {X : Type 0} (m k : ℕ) (b : Bool) (x z : X) → Ok z ≡ checked m k b x → (admitted m k ≡ true) × (b ≡ true) × (z ≡ x)
 checked-ok {X} m k b x z e = go (admitted m k) b e
   where
-    go : (a c : Bool) → _≡_ {A = Result X Refusal} (Ok z) (cond a (cond c (Ok x) (Err IndexOutOfRange)) (Err PairNotAdmitted)) → (a ≡ true) × (c ≡ true) × (z ≡ x)
+    go : (a c : Bool) → _≡_ {A = Result X ℕ} (Ok z) (cond a (cond c (Ok x) (Err 3)) (Err 2)) → (a ≡ true) × (c ≡ true) × (z ≡ x)
     go true true h = (refl, refl, cc)
     go true false h = let n : _≡_ {A = ℕ} 0 1 = cc in absurd (omega arith)
     go false c h = let n : _≡_ {A = ℕ} 0 1 = cc in absurd (omega arith)
 
-pub checked-err : {X : Type 0} (m k : ℕ) (b : Bool) (x : X) (e : Refusal) → admitted m k ≡ true → Err e ≡ checked m k b x → (b ≡ false) × (e ≡ IndexOutOfRange)
-checked-err {X} m k b x e a h = go b (h ∙ cond-true (admitted m k) (cond b (Ok x) (Err IndexOutOfRange)) (Err PairNotAdmitted) a)
+pub checked-err : {X : Type 0} (m k : ℕ) (b : Bool) (x : X) (e : ℕ) → admitted m k ≡ true → Err e ≡ checked m k b x → (b ≡ false) × (e ≡ 3)
+checked-err {X} m k b x e a h = go b (h ∙ cond-true (admitted m k) (cond b (Ok x) (Err 3)) (Err 2) a)
   where
-    go : (c : Bool) → _≡_ {A = Result X Refusal} (Err e) (cond c (Ok x) (Err IndexOutOfRange)) → (c ≡ false) × (e ≡ IndexOutOfRange)
+    go : (c : Bool) → _≡_ {A = Result X ℕ} (Err e) (cond c (Ok x) (Err 3)) → (c ≡ false) × (e ≡ 3)
     go true g = let n : _≡_ {A = ℕ} 0 1 = cc in absurd (omega arith)
     go false g = (refl, cc)

@@ -1,5 +1,6 @@
 // Where a parity block finds its data, and so where the generator matrix has its 1s.
 ghost use mathlib.Core.Path.{_≡_};
+ghost use Rattle.refusal.specs.Numbers.{numbered};
 ghost use Rattle.code.specs.PlaceLaws.{PlaceLawsHold};
 ghost use Rattle.code.specs.Answers.{placeAnswer, GeneratorEntry};
 use crate::pair::Pair;
@@ -9,7 +10,7 @@ use refusal::Refusal;
 impl Pair {
     // The row of data box j whose block stands in the sum at row y of parity box i.
     pub fn place(&self, i: usize, j: usize, y: usize) -> Result<usize, Refusal>
-        ensures { λ r. ⌜ r ≡ placeAnswer (now (self .entry) .m) (now (self .entry) .k) i j y ⌝ }
+        ensures { λ r. ⌜ numbered r ≡ placeAnswer (now (self .entry) .m) (now (self .entry) .k) i j y ⌝ }
     {
         if i >= self.m || j >= self.k || y >= self.r {
             return Err(Refusal::IndexOutOfRange);
@@ -21,7 +22,7 @@ impl Pair {
 
 // The same for plain numbers of any size: the row y with each of its first j digits lowered by i modulo m.
 pub fn place(m: usize, k: usize, i: usize, j: usize, y: usize) -> Result<usize, Refusal>
-    ensures answers { λ r. ⌜ r ≡ placeAnswer m k i j y ⌝ }
+    ensures answers { λ r. ⌜ numbered r ≡ placeAnswer m k i j y ⌝ }
     ensures place_laws { λ _. ⌜ PlaceLawsHold ⌝ }
 {
     admit(m, k)?.place(i, j, y)

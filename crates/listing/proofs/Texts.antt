@@ -11,7 +11,6 @@ use Rattle.std.specs.Written.{decimal}
 use Rattle.std.proofs.shelf.Lists.{joined-more, take-more, take-all, drop-all, append-nil, take-at}
 use Rattle.std.proofs.shelf.Tests.{cond-true, le-leb}
 use Rattle.std.specs.declared.result.Result.the-variants.{Ok, Err}
-use Rattle.refusal.specs.declared.Refusal.the-variants.{TooShort}
 use Rattle.lists.specs.declared.place.Place.{Place}
 use Rattle.lists.specs.ReadingLists.{readingList}
 use Rattle.lists.specs.Answers.{countAnswer, inRoom, filled, listAfter}
@@ -35,7 +34,7 @@ lines-all places i before line after l b e a =
 pub list-alone : (m k f c n : ℕ) (before after : List Place) → countAnswer m k f c ≡ Ok n → length before ≡ n → after ≡ listAfter m k f c before → after ≡ readingList m k f c
 list-alone m k f c n before after e l a =
     a ∙ ap (λ o. filled (readingList m k f c) before (inRoom (length before) o)) e
-    ∙ ap (filled (readingList m k f c) before) (cond-true (leb n (length before)) (Ok n) (Err TooShort) (le-leb n (length before) (omega arith)))
+    ∙ ap (filled (readingList m k f c) before) (cond-true (leb n (length before)) (Ok n) (Err 17) (le-leb n (length before) (omega arith)))
     ∙ ap (λ xs. readingList m k f c ++ xs) (drop-all n before (omega arith)) ∙ append-nil (readingList m k f c)
 
 -- the same where the list stands in a `Vec` of n places, as it is read back after the list was written into it

@@ -10,9 +10,6 @@ use Rattle.std.specs.declared.result.Result.{Result}
 use Rattle.std.specs.declared.result.Result.the-variants.{Ok, Err}
 use Rattle.std.specs.Joined.{joined}
 use Rattle.std.specs.Written.{decimal}
-use Rattle.refusal.specs.declared.Refusal.{Refusal}
-use Rattle.refusal.specs.declared.Refusal.the-variants.{NotOneLine}
-use Rattle.refusal.specs.Numbers.{numberOf}
 use Rattle.lists.specs.declared.place.Place.{Place}
 use Rattle.lists.specs.ReadingLists.{readingList}
 use Rattle.lists.specs.Answers.{countAnswer}
@@ -20,8 +17,8 @@ use Rattle.listing.specs.declared.request.Request.{Request}
 use Rattle.listing.specs.Line.{requestOf}
 
 -- `refused` and the number
-abbrev pub refusedText : Refusal → List ℕ
-refusedText e = codes "refused " ++ (decimal (numberOf e) ++ codes "\n")
+abbrev pub refusedText : ℕ → List ℕ
+refusedText number = codes "refused " ++ (decimal number ++ codes "\n")
 
 -- a line with box and row
 abbrev pub placeLine : Place → List ℕ
@@ -31,12 +28,12 @@ placeLine p = decimal (p .«box_number») ++ (codes " " ++ (decimal (p .row) ++ 
 abbrev pub placesText : List Place → List ℕ
 placesText places = codes "box row\n" ++ (joined placeLine places ++ (codes "blocks " ++ (decimal (length places) ++ codes "\n")))
 
-abbrev pub countedText : List Place → Result ℕ Refusal → List ℕ
+abbrev pub countedText : List Place → Result ℕ ℕ → List ℕ
 countedText places (Ok n) = placesText places
 countedText places (Err e) = refusedText e
 
 abbrev pub requestText : Option Request → List ℕ
-requestText None = refusedText NotOneLine
+requestText None = refusedText 19
 requestText (Some q) = countedText (readingList (q .m) (q .k) (q .lost) (q .list)) (countAnswer (q .m) (q .k) (q .lost) (q .list))
 
 -- the whole text

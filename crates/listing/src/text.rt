@@ -3,6 +3,7 @@ ghost use mathlib.Core.Path.{_≡_};
 ghost use Rattle.std.specs.Of.String.{string-bytes};
 ghost use Rattle.std.specs.Vec.{made};
 ghost use Rattle.std.specs.declared.result.Result.the-variants.{Ok};
+ghost use Rattle.refusal.specs.Numbers.{numberOf};
 ghost use Rattle.lists.specs.ReadingLists.{readingList};
 ghost use Rattle.lists.specs.Answers.{countAnswer};
 ghost use Rattle.listing.specs.Line.{ReaderFindsJustTheLines};
@@ -18,7 +19,7 @@ use std::alloc::Global;
 
 // A refusal as it is printed.
 fn refused(heap: Global, refusal: Refusal) -> Result<String, AllocError>
-    ensures { λ r. ⌜ made r (λ s. string-bytes s ≡ refusedText refusal) ⌝ }
+    ensures { λ r. ⌜ made r (λ s. string-bytes s ≡ refusedText (numberOf refusal)) ⌝ }
 {
     let number = refusal.number();
     format!(heap, "refused {number}\n")

@@ -6,10 +6,9 @@ use Prim.Native.Nat.{ℕ, _+_, _-_, _*_, _/_, _≤_, _<_}
 use native.Mathlib.Omega.{arith}
 use lib.Dec.{leb, ltb}
 use lib.ListN.{length, drop}
+use Rattle.std.specs.declared.result.Result.{Result}
 use Rattle.std.specs.declared.result.Result.the-variants.{Ok, Err}
 use Rattle.std.proofs.shelf.Tests.{cond-true, cond-false, lt-ltb, le-leb, lt-leb}
-use Rattle.refusal.specs.declared.Refusal.{Refusal}
-use Rattle.refusal.specs.declared.Refusal.the-variants.{PairNotAdmitted, NoSuchBox, NoSuchList, TooShort}
 use Rattle.code.specs.declared.pair.Pair.{Pair}
 use Rattle.code.specs.Pairs.{admitted}
 use Rattle.lists.specs.declared.place.Place.{Place}
@@ -51,20 +50,20 @@ module _ (m k f c : ℕ) (p : Pair) (asked : (admitted m k ≡ true) × (p .m �
     pub count-found : Ok n ≡ countAnswer m k f c
     count-found =
         ap Ok (counted ∙ ap length same-list)
-        ∙ sym (cond-true (admitted m k) (countFor m k f c) (Err PairNotAdmitted) (asked .0)
-        ∙ cond-true (ltb f (m + k)) (cond (ltb c (listsOf m k f)) (Ok (length (readingList m k f c))) (Err NoSuchList)) (Err NoSuchBox)
+        ∙ sym (cond-true (admitted m k) (countFor m k f c) (Err 2) (asked .0)
+        ∙ cond-true (ltb f (m + k)) (cond (ltb c (listsOf m k f)) (Ok (length (readingList m k f c))) (Err 16)) (Err 8)
         (lt-ltb f (m + k) (omega (arith, found .0, asked .1, asked .2)))
-        ∙ cond-true (ltb c (listsOf m k f)) (Ok (length (readingList m k f c))) (Err NoSuchList)
+        ∙ cond-true (ltb c (listsOf m k f)) (Ok (length (readingList m k f c))) (Err 16)
         (lt-ltb c (listsOf m k f) (rw (ap₂ (λ x y. listsOf x y f) (asked .1) (asked .2)) at (found .1))))
 
     module _ (before : List Place) where
-      pub list-short : length before < n → Err TooShort ≡ listAnswer m k f c (length before)
+      pub list-short : length before < n → _≡_ {A = Result ℕ ℕ} (Err 17) (listAnswer m k f c (length before))
       list-short h =
-          sym (cond-false (leb n (length before)) (Ok n) (Err TooShort) (lt-leb n (length before) h)) ∙ ap (inRoom (length before)) count-found
+          sym (cond-false (leb n (length before)) (Ok n) (Err 17) (lt-leb n (length before) h)) ∙ ap (inRoom (length before)) count-found
 
       pub list-fits : n ≤ length before → Ok n ≡ listAnswer m k f c (length before)
       list-fits h =
-          sym (cond-true (leb n (length before)) (Ok n) (Err TooShort) (le-leb n (length before) h)) ∙ ap (inRoom (length before)) count-found
+          sym (cond-true (leb n (length before)) (Ok n) (Err 17) (le-leb n (length before) h)) ∙ ap (inRoom (length before)) count-found
 
       pub list-laid : n ≤ length before → (after : List Place) → after ≡ laid 0 (placesGiven l) before → after ≡ listAfter m k f c before
       list-laid h after e =
@@ -75,5 +74,5 @@ module _ (m k f c : ℕ) (p : Pair) (asked : (admitted m k ≡ true) × (p .m �
           from-first i = omega arith
 
 -- a refusal leaves the places as they are
-pub refused-same : (m k f c : ℕ) (before : List Place) (e : Refusal) → Err e ≡ listAnswer m k f c (length before) → before ≡ listAfter m k f c before
+pub refused-same : (m k f c : ℕ) (before : List Place) (e : ℕ) → Err e ≡ listAnswer m k f c (length before) → before ≡ listAfter m k f c before
 refused-same m k f c before e h = ap (filled (readingList m k f c) before) h

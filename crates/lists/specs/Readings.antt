@@ -7,7 +7,7 @@ use Prim.Native.Nat.{ℕ, _+_, _≤_, _<_}
 use Rattle.std.specs.Results.{Cases}
 use Rattle.std.specs.declared.result.Result.{Result}
 use Rattle.refusal.specs.declared.Refusal.{Refusal}
-use Rattle.refusal.specs.declared.Refusal.the-variants.{NoSuchBox, NoSuchList}
+use Rattle.refusal.specs.Numbers.{numberOf}
 use Rattle.code.specs.declared.pair.Pair.{Pair}
 use Rattle.lists.specs.declared.place.Place.{Place}
 use Rattle.lists.specs.declared.reading.Reading.{Reading}
@@ -27,4 +27,4 @@ placesGiven l = placesWhere (givenBy l) (l .pair .r) (l .pair .m + l .pair .k)
 abbrev pub Finds : Pair → ℕ → ℕ → Result Reading Refusal → Type 0
 Finds p f c answer =
     Cases answer (λ l. (f < p .m + p .k) × (c < listsOf (p .m) (p .k) f) × (l .pair ≡ p) × (l .lost ≡ f) × (l .c ≡ c))
-    (λ e. ((p .m + p .k ≤ f) × (e ≡ NoSuchBox)) ⊎ ((f < p .m + p .k) × (listsOf (p .m) (p .k) f ≤ c) × (e ≡ NoSuchList)))
+    (λ e. ((p .m + p .k ≤ f) × (numberOf e ≡ 8)) ⊎ ((f < p .m + p .k) × (listsOf (p .m) (p .k) f ≤ c) × (numberOf e ≡ 16)))

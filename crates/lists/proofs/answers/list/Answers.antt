@@ -17,7 +17,7 @@ returns-then-places-count c =
     (c .count .result) (c .count .ensures) (c .args .places .now) (c .if-places-count .taken) in
     record {
       answers = short;
-      places = refused-same (c .args .m) (c .args .k) (c .args .lost) (c .args .c) (c .args .places .now) _ short;
+      places = refused-same (c .args .m) (c .args .k) (c .args .lost) (c .args .c) (c .args .places .now) 17 short;
       list-laws = lengths.list-laws;
     }
 
