@@ -1,18 +1,12 @@
 -- The number of each ground for a refusal. Assumes nothing.
 use Rattle.std.specs.Prelude.{ℕ, Ok, Err, Result}
 use Rattle.refusal.specs.declared.Refusal.{Refusal}
-use Rattle.refusal.specs.declared.Refusal.TheVariants.{NotADigit, PairNotAdmitted, IndexOutOfRange, SizeOutOfRange, MarksDoNotFit, RacksDoNotJoin, NotEveryBoxOnce, NoSuchBox, NoSuchRow, NoSuchList, TooShort, NotOneLine}
+use Rattle.refusal.specs.declared.Refusal.TheVariants.{PairNotAdmitted, IndexOutOfRange, NoSuchBox, NoSuchList, TooShort, NotOneLine}
 
 abbrev pub number_of : Refusal → ℕ
-number_of NotADigit = 1
 number_of PairNotAdmitted = 2
 number_of IndexOutOfRange = 3
-number_of SizeOutOfRange = 4
-number_of MarksDoNotFit = 5
-number_of RacksDoNotJoin = 6
-number_of NotEveryBoxOnce = 7
 number_of NoSuchBox = 8
-number_of NoSuchRow = 9
 number_of NoSuchList = 16
 number_of TooShort = 17
 number_of NotOneLine = 19

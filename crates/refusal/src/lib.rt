@@ -4,24 +4,12 @@ ghost use Rattle.refusal.specs.Numbers.{number_of};
 
 #[derive(Clone, Copy, PartialEq, Eq, Debug)]
 pub enum Refusal {
-    // the byte is above 9, so it is no digit
-    NotADigit,
     // the pair of m parity boxes and k data boxes is not admitted
     PairNotAdmitted,
     // a parity number, a data box or a row lies outside its range
     IndexOutOfRange,
-    // a rack has 1 to 13 boxes and 1 to 65,536 rows
-    SizeOutOfRange,
-    // the caller's marks are not one for each place of the rack
-    MarksDoNotFit,
-    // the racks have not the same rows, or too many boxes together
-    RacksDoNotJoin,
-    // the list does not have every box number just once
-    NotEveryBoxOnce,
     // there is no such box
     NoSuchBox,
-    // there is no such row
-    NoSuchRow,
     // the lost box has no reading list of that number
     NoSuchList,
     // the list that the caller brought has too few entries
@@ -36,15 +24,9 @@ impl Refusal {
         ensures { result ≡ number_of self.now }
     {
         match self {
-            Refusal::NotADigit => 1,
             Refusal::PairNotAdmitted => 2,
             Refusal::IndexOutOfRange => 3,
-            Refusal::SizeOutOfRange => 4,
-            Refusal::MarksDoNotFit => 5,
-            Refusal::RacksDoNotJoin => 6,
-            Refusal::NotEveryBoxOnce => 7,
             Refusal::NoSuchBox => 8,
-            Refusal::NoSuchRow => 9,
             Refusal::NoSuchList => 16,
             Refusal::TooShort => 17,
             Refusal::NotOneLine => 19,
