@@ -1,5 +1,6 @@
 // The Z code: which pairs are admitted, how a row is written in digits, where a parity block finds its data, and the
 // generator matrix.
+#![tactic(auto)]
 
 mod generator;
 mod pair;

@@ -1,4 +1,6 @@
 // The worked examples, and tests over several layers.
+#![tactic(auto)]
+
 ghost use Rattle.examples.specs.Worked.{WorkedExamplesGiven};
 
 // Carries the theorem that the definitions give every worked example, and does nothing.

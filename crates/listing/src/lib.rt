@@ -1,4 +1,6 @@
 // From one line of input to the printed reading list.
+#![tactic(auto)]
+
 mod line;
 mod request;
 mod text;

@@ -1,4 +1,6 @@
 // Reading lists: which blocks a rebuild of a lost box fetches.
+#![tactic(auto)]
+
 mod answers;
 mod fills;
 mod place;

@@ -1,4 +1,6 @@
 // Reads one line, m k f c, and prints the reading list that it asks for, or the number of the refusal.
+#![tactic(auto)]
+
 use listing::{answer, deciding_bytes};
 use std::alloc::Global;
 use std::io;

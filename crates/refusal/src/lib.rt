@@ -1,4 +1,6 @@
 // Why a call is turned down, for every layer: one case for each ground, and the number that users know it by.
+#![tactic(auto)]
+
 ghost use Rattle.std.specs.Prelude.{◌≡◌};
 ghost use Rattle.refusal.specs.Numbers.{number_of};
 

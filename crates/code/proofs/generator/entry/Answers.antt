@@ -32,28 +32,28 @@ module _ (m k i y j x : ℕ) where
       ap (λ s. Ok (eqb x s)) g.2
       ∙ accepted m k (inside m k i j y && ltb x (rows_of m k)) _ g.0 (and_from (inside m k i j y) _ g.1 (lt-ltb x (rows_of m k) (rw (rows p m k em ek) at h)))
 
-pub returns-in-err-pair : goal.returns-in-err-pair
-returns-in-err-pair c =
-    let p = err_from_is_err_and c.from-residual.result c.from-residual.ensures.1 in
-    generator_entry _ _ _ _ _ _ _ (rw (p.1, p.2, c.in-err-pair.ensures.1)
+pub returns-in_err-pair : goal.returns-in_err-pair
+returns-in_err-pair c =
+    let p = err_from_is_err_and c.from_residual.result c.from_residual.ensures.1 in
+    generator_entry _ _ _ _ _ _ _ (rw (p.1, p.2, c.in_err-pair.ensures.1)
     (refused_pair c.args.m c.args.k (inside c.args.m c.args.k c.args.i c.args.j c.args.y && ltb c.args.x (rows_of c.args.m c.args.k))
-    (eqb c.args.x (place c.args.m (pred c.args.k) c.args.i c.args.j c.args.y)) c.in-err-pair.ensures.0))
+    (eqb c.args.x (place c.args.m (pred c.args.k) c.args.i c.args.j c.args.y)) c.in_err-pair.ensures.0))
 
-pub returns-in-err-spot : goal.returns-in-err-spot
-returns-in-err-spot c =
-    let p = err_from_is_err_and c.from-residual-in-err-spot.result c.from-residual-in-err-spot.ensures.1 in
-    let got = c.in-ok-pair.ensures in
+pub returns-in_err-spot : goal.returns-in_err-spot
+returns-in_err-spot c =
+    let p = err_from_is_err_and c.from_residual-in_err-spot.result c.from_residual-in_err-spot.ensures.1 in
+    let got = c.in_ok-pair.ensures in
     generator_entry _ _ _ _ _ _ _ (rw (p.1, p.2)
-    (at_index c.args.m c.args.k c.args.i c.args.y c.args.j c.args.x (number_of c.in-err-spot.field-0.0) got.0
-    (renamed c.in-ok-pair.pair c.args.m c.args.k c.args.i c.args.j c.args.y _ got.1 got.2 c.in-err-spot.ensures)))
+    (at_index c.args.m c.args.k c.args.i c.args.y c.args.j c.args.x (number_of c.in_err-spot.field-0.0) got.0
+    (renamed c.in_ok-pair.pair c.args.m c.args.k c.args.i c.args.j c.args.y _ got.1 got.2 c.in_err-spot.ensures)))
 
 pub returns-then-x-pair : goal.returns-then-x-pair
 returns-then-x-pair c =
-    let got = c.in-ok-pair.ensures in
-    generator_entry _ _ _ _ _ _ _ (at_column c.args.m c.args.k c.args.i c.args.y c.args.j c.args.x c.in-ok-pair.pair got.0 got.1 got.2 c.if-x-pair.true)
+    let got = c.in_ok-pair.ensures in
+    generator_entry _ _ _ _ _ _ _ (at_column c.args.m c.args.k c.args.i c.args.y c.args.j c.args.x c.in_ok-pair.pair got.0 got.1 got.2 c.if-x-pair.true)
 
 pub returns : goal.returns
 returns c =
-    let got = c.in-ok-pair.ensures in
-    generator_entry _ _ _ _ _ _ _ (at_entry c.args.m c.args.k c.args.i c.args.y c.args.j c.args.x c.in-ok-pair.pair c.in-ok-spot.spot got.1 got.2 c.if-x-pair.false
-    (renamed c.in-ok-pair.pair c.args.m c.args.k c.args.i c.args.j c.args.y _ got.1 got.2 c.in-ok-spot.ensures))
+    let got = c.in_ok-pair.ensures in
+    generator_entry _ _ _ _ _ _ _ (at_entry c.args.m c.args.k c.args.i c.args.y c.args.j c.args.x c.in_ok-pair.pair c.in_ok-spot.spot got.1 got.2 c.if-x-pair.false
+    (renamed c.in_ok-pair.pair c.args.m c.args.k c.args.i c.args.j c.args.y _ got.1 got.2 c.in_ok-spot.ensures))

@@ -5,12 +5,12 @@ use Rattle.code.proofs.Tables.{found, found_rows, passed, missed}
 use Rattle.code.proofs.table.admit.Goals as goal
 use Rattle.code.proofs.table.admit.Goals.{else-p-m-via-then-p-m+else-p-k, else-p-m-via-else-p-m}
 
-pub invariant-of-result : goal.invariant-of-result
-invariant-of-result c =
+pub invariant_of-result : goal.invariant_of-result
+invariant_of-result c =
     let l : suc c.loop-p.p-index ≤ length c.pairs.result = omega (arith, c.pairs.ensures.there_are_21) in
     let a = admitted_true c.args.m c.args.k (found c.pairs.result c.pairs.ensures c.args.m c.args.k c.loop-p.p-index _ c.loop-p.invariant l c.if-p-m.true c.if-p-k.true) in
     let power = found_rows c.pairs.result c.pairs.ensures c.args.m c.args.k c.loop-p.p-index _ c.loop-p.invariant l c.if-p-m.true c.if-p-k.true in
-    ((a.some_parity, a.few_parity), ((a.some_data, few_data a), (power, (rw (← power) at a.few_rows, tt))))
+    record { parity = (a.some_parity, a.few_parity); datas = (a.some_data, few_data a); power = power; few = rw (← power) at a.few_rows }
 
 pub returns-then-p-k : goal.returns-then-p-k
 returns-then-p-k c =

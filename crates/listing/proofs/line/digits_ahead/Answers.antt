@@ -3,14 +3,14 @@ use Rattle.std.proofs.lemmas.List.Sums.{prefix_len-drop_yes, prefix_len-drop_no,
 use Rattle.listing.specs.Line.{is_digit}
 use Rattle.listing.proofs.line.digits_ahead.Goals as goal
 
-pub returns-then-not-is-ascii-digit : goal.returns-then-not-is-ascii-digit
-returns-then-not-is-ascii-digit c =
-    omega (arith, c.loop-b.invariant.1, prefix_len-drop_no is_digit c.args.input.now c.loop-b.b-index 0 c.loop-b-test.true (sym c.if-not-is-ascii-digit.ensures.value))
+pub returns-then-not-is_ascii_digit : goal.returns-then-not-is_ascii_digit
+returns-then-not-is_ascii_digit c =
+    omega (arith, c.loop-b.invariant.1, prefix_len-drop_no is_digit c.args.input.now c.loop-b.b-index 0 c.loop-b-test.true (sym c.if-not-is_ascii_digit.ensures.value))
 
 pub loop-b-preserved : goal.loop-b-preserved
 loop-b-preserved c = (
   omega (arith, c.loop-b.invariant.0),
-  omega (arith, c.loop-b.invariant.1, prefix_len-drop_yes is_digit c.args.input.now c.loop-b.b-index 0 c.loop-b-test.true (sym c.if-not-is-ascii-digit.ensures.value)),
+  omega (arith, c.loop-b.invariant.1, prefix_len-drop_yes is_digit c.args.input.now c.loop-b.b-index 0 c.loop-b-test.true (sym c.if-not-is_ascii_digit.ensures.value)),
 )
 
 pub returns : goal.returns

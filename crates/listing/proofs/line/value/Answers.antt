@@ -5,8 +5,8 @@ use Rattle.listing.specs.Line.{is_digit, value_of}
 use Rattle.listing.proofs.Fields.{digit_bounds, value_more, value_room}
 use Rattle.listing.proofs.line.value.Goals as goal
 
-pub overflow-sub-value : goal.overflow-sub-value
-overflow-sub-value c = (digit_bounds (get_or c.args.digits.now c.loop-b.b-index 0) (All-get_or (λ b. is_digit b ≡ true) c.args.digits.now c.loop-b.b-index 0 c.loop-b-test.true c.requires.0)).0
+pub overflow_sub-value : goal.overflow_sub-value
+overflow_sub-value c = (digit_bounds (get_or c.args.digits.now c.loop-b.b-index 0) (All-get_or (λ b. is_digit b ≡ true) c.args.digits.now c.loop-b.b-index 0 c.loop-b-test.true c.requires.0)).0
 
 pub loop-b-preserved : goal.loop-b-preserved
 loop-b-preserved c = (

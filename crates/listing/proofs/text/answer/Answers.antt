@@ -2,8 +2,8 @@ use Rattle.std.proofs.Common.{rules}
 use Rattle.listing.proofs.Lines as lines
 use Rattle.listing.proofs.text.answer.Goals as goal
 
-pub returns-in-default : goal.returns-in-default
-returns-in-default c = record {
+pub returns-in_default : goal.returns-in_default
+returns-in_default c = record {
   text = search rules;
   reader_finds_just_the_lines = lines.reader_finds_just_the_lines;
 }

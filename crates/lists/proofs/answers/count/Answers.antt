@@ -3,5 +3,5 @@ use Rattle.lists.proofs.answers.count.Goals as goal
 
 pub returns : goal.returns
 returns c =
-    count_found c.args.m c.args.k c.args.lost c.args.c c.in-ok-admit.field-0 c.in-ok-admit.ensures c.in-ok-of.field-0 c.in-ok-of.ensures
+    count_found c.args.m c.args.k c.args.lost c.args.c c.in_ok-admit.field-0 c.in_ok-admit.ensures c.in_ok-of.field-0 c.in_ok-of.ensures
     c.count.result c.count.ensures

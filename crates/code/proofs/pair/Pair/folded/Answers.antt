@@ -15,11 +15,11 @@ pub loop-t-init : goal.loop-t-init
 unfolding row
 loop-t-init c = refl
 
-pub overflow-mul-y : goal.overflow-mul-y
-overflow-mul-y c = record { fits = omega (arith, small c.args.self.now c.args.digits c.loop-t.t c.loop-t.y c.requires c.loop-t-test.true c.loop-t.invariant) }
+pub overflow_mul-y : goal.overflow_mul-y
+overflow_mul-y c = record { fits = omega (arith, small c.args.self.now c.args.digits c.loop-t.t c.loop-t.y c.requires c.loop-t-test.true c.loop-t.invariant) }
 
-pub overflow-add-y : goal.overflow-add-y
-overflow-add-y c = record { fits = omega (arith, small c.args.self.now c.args.digits c.loop-t.t c.loop-t.y c.requires c.loop-t-test.true c.loop-t.invariant) }
+pub overflow_add-y : goal.overflow_add-y
+overflow_add-y c = record { fits = omega (arith, small c.args.self.now c.args.digits c.loop-t.t c.loop-t.y c.requires c.loop-t-test.true c.loop-t.invariant) }
 
 pub loop-t-preserved : goal.loop-t-preserved
 unfolding row

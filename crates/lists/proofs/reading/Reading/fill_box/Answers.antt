@@ -13,14 +13,14 @@ room c =
     rows_room (given_by l c.args.b) c.args.b c.loop-row.row l.pair.r c.args.start c.args.places.now c.loop-row.places c.loop-row.end c.loop-row.invariant
     c.loop-row-test.true c.requires.1 (sym c.if-gives.ensures)
 
-pub offset-bounds-places-end : goal.offset-bounds-places-end
-offset-bounds-places-end c = let h = room c in search rules
+pub offset_bounds-places-end : goal.offset_bounds-places-end
+offset_bounds-places-end c = let h = room c in search rules
 
 pub bounds-places-end : goal.bounds-places-end
 bounds-places-end c = omega (arith, room c)
 
-pub overflow-add-end : goal.overflow-add-end
-overflow-add-end c = let h = room c in search rules
+pub overflow_add-end : goal.overflow_add-end
+overflow_add-end c = let h = room c in search rules
 
 pub loop-row-preserved : goal.loop-row-preserved
 loop-row-preserved c =

@@ -19,11 +19,11 @@ small c t =
     let p = c.args.self.now.pair in
     rw (c.digits-digits.ensures t) (digit_lt p.m (pred p.k) t c.args.y (omega arith))
 
-pub overflow-sub-result-then-self-gt0 : goal.overflow-sub-result-then-self-gt0
-overflow-sub-result-then-self-gt0 c = omega (arith, small c c.args.self.now.lost)
+pub overflow_sub-result-then-self-gt0 : goal.overflow_sub-result-then-self-gt0
+overflow_sub-result-then-self-gt0 c = omega (arith, small c c.args.self.now.lost)
 
-pub overflow-add-result : goal.overflow-add-result
-overflow-add-result c = record { fits = omega (arith, small c c.args.self.now.lost, small c (c.args.self.now.lost - 1)) }
+pub overflow_add-result : goal.overflow_add-result
+overflow_add-result c = record { fits = omega (arith, small c c.args.self.now.lost, small c (c.args.self.now.lost - 1)) }
 
 pub returns-then-self-gt0 : goal.returns-then-self-gt0
 returns-then-self-gt0 c =
