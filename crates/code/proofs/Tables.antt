@@ -1,6 +1,6 @@
 -- The rules of the table, each from one test that the checker computes over the whole table. Assumes nothing.
 use Rattle.std.proofs.Common.{◌≡◌, ℕ, zero, suc, ◌+◌, ◌<◌, ◌≤◌, Bool, true, false, not, ◌&&◌, ◌||◌, eqb, leb, List, [], ◌∷◌, ◌++◌, length, get_or, drop, sym, refl, ap, ◌∙◌, ap₂, ⊎_elim, arith}
-use Rattle.std.specs.List.{AllByRecursion as All}
+use Rattle.std.specs.List.{AllByRecursion}
 use Rattle.std.proofs.lemmas.Bool.{and_parts, eqb-true, leb-true, ne_eqb, or_from, and_left, and_right, cases_lt, and_from, eq-eqb, or_left}
 use Rattle.std.proofs.ByRecursion.{All-get_or}
 use Rattle.std.proofs.lemmas.List.{at_drop_more, at_drop_all}
@@ -17,7 +17,7 @@ abbrev every : List Sizes → Bool
 every [] = true
 every (p ∷ table) = right p && every table
 
-powers : (table : List Sizes) → every table ≡ true → All (λ p. p.r ≡ rows_of p.m p.k) table
+powers : (table : List Sizes) → every table ≡ true → AllByRecursion (λ p. p.r ≡ rows_of p.m p.k) table
 powers [] e = tt
 powers (p ∷ table) e =
     let here = and_parts (right p) (every table) e in

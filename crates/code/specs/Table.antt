@@ -1,6 +1,6 @@
 -- What the table of the admitted pairs holds. Assumes nothing.
 use Rattle.std.specs.Prelude.{◌≡◌, ℕ, Bool, false, ◌&&◌, ◌||◌, List, [], ◌∷◌, ◌++◌, map, length, ◌==◌}
-use Rattle.std.specs.List.{range_with_len, AllByRecursion as All}
+use Rattle.std.specs.List.{range_with_len, AllByRecursion}
 use Rattle.code.specs.declared.sizes.Sizes.{Sizes}
 use Rattle.code.specs.Pairs.{rows_of, admitted}
 
@@ -17,5 +17,5 @@ pub record TableRule (table : List Sizes) : Type 0 where
   -- k from 2 to 11, to 7 and to 6
   pub in_order : table ≡ pairs_of 2 10 ++ (pairs_of 3 6 ++ pairs_of 4 5)
   pub there_are_21 : length table ≡ 21
-  pub each_r_is_the_power : All (λ p. p.r ≡ rows_of p.m p.k) table
+  pub each_r_is_the_power : AllByRecursion (λ p. p.r ≡ rows_of p.m p.k) table
   pub holds_exactly_the_admitted : (m k : ℕ) → has table m k ≡ admitted m k

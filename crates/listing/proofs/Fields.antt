@@ -1,6 +1,6 @@
 -- Digits at the front of the input, and a number before its stop. Assumes nothing.
 use Rattle.std.proofs.Common.{◌≡◌, ℕ, suc, ◌+◌, ◌-◌, ◌*◌, ◌^◌, ◌<◌, ◌≤◌, Bool, true, false, cond, ◌&&◌, leb, List, [], ◌∷◌, length, get_or, take, drop, Some, None, sym, refl, ap, ◌∙◌, ap₂, pow-suc, add-one, arith}
-use Rattle.std.specs.List.{prefix_len, AllByRecursion as All}
+use Rattle.std.specs.List.{prefix_len, AllByRecursion}
 use Rattle.std.proofs.ByRecursion.{All-get_or}
 use Rattle.std.proofs.lemmas.List.{drop_more, take_rest}
 use Rattle.std.proofs.lemmas.List.Sums.{fold_more}
@@ -16,17 +16,17 @@ pub value_more : (digits : List ℕ) (i v : ℕ) → i < length digits → v ≡
 value_more digits i v l e =
     ap (λ x. x * 10 + (get_or digits i 0 - 48)) e ∙ sym (fold_more (λ v b. v * 10 + (b - 48)) 0 digits i 0 l)
 
-pub value_room : (digits : List ℕ) (i v : ℕ) → i < length digits → All (λ b. is_digit b ≡ true) digits → v < 10 ^ i → v * 10 + (get_or digits i 0 - 48) < 10 ^ (i + 1)
+pub value_room : (digits : List ℕ) (i v : ℕ) → i < length digits → AllByRecursion (λ b. is_digit b ≡ true) digits → v < 10 ^ i → v * 10 + (get_or digits i 0 - 48) < 10 ^ (i + 1)
 value_room digits i v l all h =
     let d = digit_bounds (get_or digits i 0) (All-get_or (λ b. is_digit b ≡ true) digits i 0 l all) in
     rw (add-one, pow-suc) (omega arith)
 
 -- the digits that are counted are digits, and lie within the input
-pub leading_all : (bytes : List ℕ) → All (λ b. is_digit b ≡ true) (take (prefix_len is_digit bytes) bytes)
+pub leading_all : (bytes : List ℕ) → AllByRecursion (λ b. is_digit b ≡ true) (take (prefix_len is_digit bytes) bytes)
 leading_all [] = tt
 leading_all (b ∷ bytes) = go (is_digit b) refl (leading_all bytes)
   where
-    go : (t : Bool) → is_digit b ≡ t → All (λ x. is_digit x ≡ true) (take (prefix_len is_digit bytes) bytes) → All (λ x. is_digit x ≡ true) (take (cond t (1 + prefix_len is_digit bytes) 0) (b ∷ bytes))
+    go : (t : Bool) → is_digit b ≡ t → AllByRecursion (λ x. is_digit x ≡ true) (take (prefix_len is_digit bytes) bytes) → AllByRecursion (λ x. is_digit x ≡ true) (take (cond t (1 + prefix_len is_digit bytes) 0) (b ∷ bytes))
     go true e ih = let q : 1 + prefix_len is_digit bytes ≡ suc (prefix_len is_digit bytes) = omega arith in rw q (e, ih)
     go false e ih = tt
 

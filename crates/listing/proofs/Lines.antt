@@ -1,6 +1,6 @@
 -- The reader of the input finds just the lines, and a line is short. Assumes nothing.
 use Rattle.std.proofs.Common.{◌≡◌, ℕ, suc, ◌+◌, ◌<◌, ◌≤◌, Bool, true, false, cond, ◌&&◌, leb, List, [], ◌∷◌, ◌++◌, length, take, drop, Some, None, Option, sym, refl, ap, ◌∙◌, ap₂, add-one, arith}
-use Rattle.std.specs.List.{prefix_len, AllByRecursion as All}
+use Rattle.std.specs.List.{prefix_len, AllByRecursion}
 use Rattle.std.proofs.lemmas.List.{take-append-drop, take_at, drop_at, drop-drop, length-append, length-take-le}
 use Rattle.std.proofs.lemmas.List.Sums.{prefix_len-le-length}
 use Rattle.std.proofs.lemmas.Bool.{and_from, leb-true, le-leb, eqb-true, eq-eqb, cond-true}
@@ -10,7 +10,7 @@ use Rattle.listing.specs.Text.{enough, request_text, FirstBytesDecide}
 use Rattle.listing.proofs.Fields.{leading_all, fields_read}
 
 -- digits before a byte that is none
-leading_front : (digits : List ℕ) (stop : ℕ) (rest : List ℕ) → All (λ b. is_digit b ≡ true) digits → is_digit stop ≡ false → prefix_len is_digit (digits ++ stop ∷ rest) ≡ length digits
+leading_front : (digits : List ℕ) (stop : ℕ) (rest : List ℕ) → AllByRecursion (λ b. is_digit b ≡ true) digits → is_digit stop ≡ false → prefix_len is_digit (digits ++ stop ∷ rest) ≡ length digits
 leading_front [] stop rest all no' = ap (λ t. cond t (1 + prefix_len is_digit rest) 0) no'
 leading_front (b ∷ digits) stop rest all no' =
     ap (λ t. cond t (1 + prefix_len is_digit (digits ++ stop ∷ rest)) 0) all.0 ∙ ap (λ n. 1 + n) (leading_front digits stop rest all.1 no') ∙ more (length digits)

@@ -1,6 +1,6 @@
 -- The one line of input: four numbers, single spaces between them, a newline last. Assumes nothing.
 use Rattle.std.specs.Prelude.{◌≡◌, ℕ, suc, ◌+◌, ◌-◌, ◌*◌, ◌≤◌, Bool, true, false, cond, ◌&&◌, List, [], ◌∷◌, ◌++◌, length, take, drop, Some, None, fold, Option, ◌==◌, nat_le}
-use Rattle.std.specs.List.{prefix_len, AllByRecursion as All}
+use Rattle.std.specs.List.{prefix_len, AllByRecursion}
 use Rattle.listing.specs.declared.request.Request.{Request}
 
 -- the bytes of a space and a newline, and the most digits of a number
@@ -23,7 +23,7 @@ value_of digits = fold (λ v b. v * 10 + (b - 48)) 0 digits
 
 -- one to five digits; zeros in front are digits like any other
 pub record Numeral (digits : List ℕ) : Type 0 where
-  pub all_digits : All (λ b. is_digit b ≡ true) digits
+  pub all_digits : AllByRecursion (λ b. is_digit b ≡ true) digits
   pub some_digit : 1 ≤ length digits
   pub few_digits : length digits ≤ most_digits
 

@@ -1,6 +1,6 @@
 // The reading of the one line of input.
 ghost use Rattle.std.specs.Prelude.{◌≡◌, ◌≤◌, true, length, Some, None, MatchOption};
-ghost use Rattle.std.specs.List.{prefix_len, AllByRecursion as All};
+ghost use Rattle.std.specs.List.{prefix_len, AllByRecursion};
 ghost use Rattle.listing.specs.Line.{most_digits, is_digit, value_of, field_of, request_of};
 
 use crate::request::Request;
@@ -24,7 +24,7 @@ fn digits_ahead(input: &[u8]) -> usize
 
 // The number that up to five digits write.
 fn value(digits: &[u8]) -> usize
-    requires { (All (λ b. is_digit b ≡ true) digits.now) × (length digits.now ≤ most_digits) }
+    requires { (AllByRecursion (λ b. is_digit b ≡ true) digits.now) × (length digits.now ≤ most_digits) }
     ensures { result ≡ value_of digits.now }
 {
     let mut value = 0;

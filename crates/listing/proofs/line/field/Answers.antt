@@ -1,5 +1,5 @@
 use Rattle.std.proofs.Common.{◌≡◌, true, take, sym, subst, arith, rules}
-use Rattle.std.specs.List.{AllByRecursion as All}
+use Rattle.std.specs.List.{AllByRecursion}
 use Rattle.std.proofs.lemmas.List.{length-take}
 use Rattle.std.proofs.lemmas.List.Sums.{prefix_len-le-length}
 use Rattle.listing.specs.Line.{is_digit}
@@ -15,7 +15,7 @@ slice_bounds-value-end c = let h = prefix_len-le-length is_digit c.args.input.no
 pub value-requires : goal.value-requires
 value-requires c =
     let n = c.digits_ahead-n.result in (
-      subst (λ i. All (λ b. is_digit b ≡ true) (take i c.args.input.now)) (sym c.digits_ahead-n.ensures) (leading_all c.args.input.now),
+      subst (λ i. AllByRecursion (λ b. is_digit b ≡ true) (take i c.args.input.now)) (sym c.digits_ahead-n.ensures) (leading_all c.args.input.now),
       omega (arith, length-take n c.args.input.now),
     )
 
