@@ -23,7 +23,9 @@ impl Pair {
 
     // The digits with each of the first j lowered by i modulo m.
     pub(crate) fn lowered(&self, i: usize, j: usize, digits: [usize; DIGITS]) -> [usize; DIGITS]
-        requires { (i < self.now.m) × ((j ≤ self.now.k) × (((t : ℕ) → held digits t < self.now.m))) }
+        requires by_less_than_m { i < self.now.m }
+        requires at_most_k { j ≤ self.now.k }
+        requires digits_below_m { (t : ℕ) → held digits t < self.now.m }
         ensures { (t : ℕ) → held result t ≡ (if nat_lt t j then low self.now.m i (held digits t) else held digits t) }
     {
         let mut lowered = digits;

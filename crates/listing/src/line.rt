@@ -24,7 +24,8 @@ fn digits_ahead(input: &[u8]) -> usize
 
 // The number that up to five digits write.
 fn value(digits: &[u8]) -> usize
-    requires { (AllByRecursion (λ b. is_digit b ≡ true) digits.now) × (length digits.now ≤ most_digits) }
+    requires all_digits { AllByRecursion (λ b. is_digit b ≡ true) digits.now }
+    requires few_digits { length digits.now ≤ most_digits }
     ensures { result ≡ value_of digits.now }
 {
     let mut value = 0;

@@ -60,7 +60,8 @@ impl Reading {
 
     // Writes the places of box b into the caller's from `start` on, and answers where they end.
     fn fill_box(&self, b: usize, start: usize, places: &mut [Place]) -> usize
-        requires { (b < self.now.pair.m + self.now.pair.k) × (start + length (rows_given self.now b) ≤ length places.old) }
+        requires a_box { b < self.now.pair.m + self.now.pair.k }
+        requires room { start + length (rows_given self.now b) ≤ length places.old }
         ensures places { places.new ≡ laid start (rows_given self.now b) places.old }
         ensures end { result ≡ start + length (rows_given self.now b) }
     {

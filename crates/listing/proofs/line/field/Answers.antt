@@ -14,10 +14,11 @@ slice_bounds-value-end c = let h = prefix_len-le-length is_digit c.args.input.no
 
 pub value-requires : goal.value-requires
 value-requires c =
-    let n = c.digits_ahead-n.result in (
-      subst (λ i. AllByRecursion (λ b. is_digit b ≡ true) (take i c.args.input.now)) (sym c.digits_ahead-n.ensures) (leading_all c.args.input.now),
-      omega (arith, length-take n c.args.input.now),
-    )
+    let n = c.digits_ahead-n.result in
+    record {
+      all_digits = subst (λ i. AllByRecursion (λ b. is_digit b ≡ true) (take i c.args.input.now)) (sym c.digits_ahead-n.ensures) (leading_all c.args.input.now);
+      few_digits = omega (arith, length-take n c.args.input.now);
+    }
 
 pub slice_bounds-result-count : goal.slice_bounds-result-count
 slice_bounds-result-count c = omega (arith, c.digits_ahead-n.ensures, prefix_len-le-length is_digit c.args.input.now, c.if-n-input.false)

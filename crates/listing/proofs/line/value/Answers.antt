@@ -6,12 +6,12 @@ use Rattle.listing.proofs.Fields.{digit_bounds, value_more, value_room}
 use Rattle.listing.proofs.line.value.Goals as goal
 
 pub overflow_sub-value : goal.overflow_sub-value
-overflow_sub-value c = (digit_bounds (get_or c.args.digits.now c.loop-b.b-index 0) (All-get_or (λ b. is_digit b ≡ true) c.args.digits.now c.loop-b.b-index 0 c.loop-b-test.true c.requires.0)).0
+overflow_sub-value c = (digit_bounds (get_or c.args.digits.now c.loop-b.b-index 0) (All-get_or (λ b. is_digit b ≡ true) c.args.digits.now c.loop-b.b-index 0 c.loop-b-test.true c.requires.all_digits)).0
 
 pub loop-b-preserved : goal.loop-b-preserved
 loop-b-preserved c = (
   value_more c.args.digits.now c.loop-b.b-index c.loop-b.value c.loop-b-test.true c.loop-b.invariant.0,
-  value_room c.args.digits.now c.loop-b.b-index c.loop-b.value c.loop-b-test.true c.requires.0 c.loop-b.invariant.1,
+  value_room c.args.digits.now c.loop-b.b-index c.loop-b.value c.loop-b-test.true c.requires.all_digits c.loop-b.invariant.1,
 )
 
 pub returns : goal.returns

@@ -22,7 +22,11 @@ returns-then-i-self c =
 pub lowered-digits-requires : goal.lowered-digits-requires
 lowered-digits-requires c =
     let p = c.args.self.now in
-    (c.if-i-self.false, (omega arith, λ t. rw (c.digits.ensures t) (digit_lt p.m (pred p.k) t c.args.y (omega arith))))
+    record {
+      by_less_than_m = c.if-i-self.false;
+      at_most_k = omega arith;
+      digits_below_m = λ t. rw (c.digits.ensures t) (digit_lt p.m (pred p.k) t c.args.y (omega arith));
+    }
 
 pub folded-requires : goal.folded-requires
 folded-requires c t =

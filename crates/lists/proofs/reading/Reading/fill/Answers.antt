@@ -8,10 +8,11 @@ loop-b-init c = boxes_laid_none (given_by c.args.self.now) c.args.self.now.pair.
 
 pub fill_box-count-requires : goal.fill_box-count-requires
 fill_box-count-requires c =
-    let l = c.args.self.now in (
-      c.loop-b-test.true,
-      boxes_room (given_by l) l.pair.r c.loop-b.b (l.pair.m + l.pair.k) c.args.places.now c.loop-b.places c.loop-b.count c.loop-b.invariant c.loop-b-test.true c.requires,
-    )
+    let l = c.args.self.now in
+    record {
+      a_box = c.loop-b-test.true;
+      room = boxes_room (given_by l) l.pair.r c.loop-b.b (l.pair.m + l.pair.k) c.args.places.now c.loop-b.places c.loop-b.count c.loop-b.invariant c.loop-b-test.true c.requires;
+    }
 
 pub loop-b-preserved : goal.loop-b-preserved
 loop-b-preserved c =

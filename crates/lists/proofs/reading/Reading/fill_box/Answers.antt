@@ -11,7 +11,7 @@ room : (c : goal.Then-gives) → c.loop-row.end < length c.args.places.now
 room c =
     let l = c.args.self.now in
     rows_room (given_by l c.args.b) c.args.b c.loop-row.row l.pair.r c.args.start c.args.places.now c.loop-row.places c.loop-row.end c.loop-row.invariant
-    c.loop-row-test.true c.requires.1 (sym c.if-gives.ensures)
+    c.loop-row-test.true c.requires.room (sym c.if-gives.ensures)
 
 pub offset_bounds-places-end : goal.offset_bounds-places-end
 offset_bounds-places-end c = let h = room c in search rules
@@ -32,7 +32,7 @@ loop-row-preserved c =
           rows_laid_yes (given_by l c.args.b) c.args.b c.loop-row.row l.pair.r c.args.start before c.loop-row.places c.loop-row.end sofar
           (sym w.if-gives.ensures)
           (rows_room (given_by l c.args.b) c.args.b c.loop-row.row l.pair.r c.args.start before c.loop-row.places c.loop-row.end sofar
-          c.loop-row-test.true c.requires.1 (sym w.if-gives.ensures))
+          c.loop-row-test.true c.requires.room (sym w.if-gives.ensures))
           c.if-gives.places c.if-gives.end w.places-is w.end-is
       | else-gives w ↦
           rows_laid_no (given_by l c.args.b) c.args.b c.loop-row.row l.pair.r c.args.start before c.loop-row.places c.loop-row.end sofar
