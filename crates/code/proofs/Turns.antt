@@ -1,49 +1,59 @@
 -- One turn of each loop over the digits of a row. Assumes nothing.
-use Rattle.std.proofs.Common.{◌≡◌, ℕ, suc, pred, ◌-◌, ◌/◌, ◌%◌, ◌<◌, ◌≤◌, cond, ltb, List, length, get_or, set, sym, refl, ap, ◌∙◌, subst, ⊎_elim, lt_of_lt_of_le, arith}
-use native.Mathlib.Nat.{pow-le-pow_right}
-use Rattle.std.proofs.lemmas.List.{length-set, get_or-set_same, get_or-set_other}
-use Rattle.std.proofs.lemmas.Bool.{cases_eq}
-use Rattle.code.specs.Pairs.{most_data, rows_of}
-use Rattle.code.specs.Rows.{digit, row, low}
-use Rattle.code.proofs.Digits.{digit_last, digit_front, digit_past, row_lt}
+use Rattle.std.proofs.Common.{◌≡◌, ℕ, zero, refl, suc, pred, ◌+◌, ◌-◌, ◌*◌, ◌^◌, ◌/◌, ◌%◌, ◌<◌, ◌≤◌, List, length, get_or, set, take, sym, ap, ◌∙◌, below_more, drop, ◌++◌, replicate, arith}
+use native.Mathlib.Nat.{pow-le-pow_right, one-le-pow}
+use Rattle.std.specs.List.{fold}
+use Rattle.std.proofs.lemmas.List.Sums.{fold_more}
+use Rattle.std.proofs.lemmas.Grind.{get_or_default_zero}
+use Rattle.std.proofs.lemmas.List.{take-take, length-take, get_or-take, get_or-set_same, get_or-set_other, get_or_append_left, get_or-append_right, get_or-drop, get_or-replicate, get_or_past, length-replicate}
+use Rattle.std.proofs.lemmas.Bool.Decides.{nat_tests}
+use Rattle.code.specs.declared.pair.Pair.{Pair}
+use Rattle.code.specs.Pairs.{most_rows, rows_of}
+use Rattle.code.specs.Rows.{digit, row, held}
+use Rattle.code.proofs.Digits.{next_weight, digit_at, digit_past, row_lt}
 
--- a list after a write in it, place by place
-at_set : (xs : List ℕ) (t x s : ℕ) (P : ℕ → Type 0) → t < length xs → (s ≡ t → P x) → ((s ≡ t → ⊥) → P (get_or xs s 0)) → P (get_or (set xs t x) s 0)
-at_set xs t x s P l here there =
-    ⊎_elim
-    (λ e. let same : get_or (set xs t x) s 0 ≡ x = ap (λ i. get_or (set xs t x) i 0) e ∙ get_or-set_same xs t x 0 l in rw same (here e))
-    (λ ne. let same : get_or (set xs t x) s 0 ≡ get_or xs s 0 = get_or-set_other xs t s x 0 ne in rw same (there ne))
-    (cases_eq s t)
+-- the first i digits of the row y are written, and the weight is that of the digit before
+pub record Written (m n y i weight : ℕ) (digits : List ℕ) : Type 0 where
+  pub weight_before : weight ≡ m ^ (n - i)
+  pub first_digits : (s : ℕ) → s < i → get_or digits s 0 ≡ digit m n s y
 
--- the digits from place t on are written, and the first t are those of what is left
-pub record Written (m n y t rest : ℕ) (digits : List ℕ) : Type 0 where
-  pub room : length digits ≡ most_data
-  pub front : (s : ℕ) → s < t → digit m n s y ≡ digit m t s rest
-  pub done : (s : ℕ) → t ≤ s → get_or digits s 0 ≡ digit m n s y
+-- one digit more
+module _ (m n y i weight : ℕ) (digits : List ℕ) (p : 0 < m) (l : i < n) (w : Written m n y i weight digits) where
+  next : weight / m ≡ m ^ (n - (i + 1))
+  next = ap (λ x. x / m) w.weight_before ∙ next_weight m n i p l
 
-pub written_none : (m n y : ℕ) (digits : List ℕ) → length digits ≡ most_data → ((s : ℕ) → get_or digits s 0 ≡ 0) → Written m n y n y digits
-written_none m n y digits e zeros = record { room = e; front = λ s _. refl; done = λ s l. zeros s ∙ sym (digit_past m n s y l) }
+  pub next_positive : 0 < weight / m
+  next_positive = rw next (one-le-pow (n - (i + 1)) m p)
 
-pub written_more : (m n y t rest : ℕ) (digits : List ℕ) → t < most_data → Written m n y (suc t) rest digits → Written m n y t (rest / m) (set digits t (rest % m))
-written_more m n y t rest digits l w = record {
-  room = length-set digits t (rest % m) ∙ w.room;
-  front = λ s h. w.front s (omega arith) ∙ digit_front m t s rest (omega arith);
-  done = λ s h. at_set digits t (rest % m) s (λ d. d ≡ digit m n s y) (omega (arith, w.room))
-      (λ e. let h' : s < suc t = omega arith in sym (w.front s h' ∙ ap (λ i. digit m (suc t) i rest) e ∙ digit_last m t rest))
-      (λ ne. w.done s (omega arith));
-}
+  pub written_more : i < length digits → Written m n y (i + 1) (weight / m) (set digits i (y / (weight / m) % m))
+  written_more h = record {
+    weight_before = next;
+    first_digits = below_more _ i (λ s k. let ne : s ≡ i → ⊥ = omega arith in rw get_or-set_other (w.first_digits s k)) (get_or-set_same digits i _ 0 h ∙ rw next (sym (digit_at m n i y p l)));
+  }
 
--- the same at the loop's own counter, which falls
-pub written_turn : (m n y t rest : ℕ) (digits : List ℕ) → 0 < t → t ≤ most_data → Written m n y t rest digits → Written m n y (t - 1) (rest / m) (set digits (t - 1) (rest % m))
-written_turn m n y t rest digits p l w =
-    let e : t ≡ suc (t - 1) = omega arith in
-    written_more m n y (t - 1) rest digits (omega arith) (subst (λ x. Written m n y x rest digits) e w)
+zero_there : (n i : ℕ) → ◌≡◌ {A = ℕ} (get_or (replicate n 0) i 0) 0
+zero_there n i = grind (arith, nat_tests, get_or-replicate {A = ℕ} n i 0 0, get_or_past {X = ℕ} (replicate n 0) i 0, length-replicate {A = ℕ})
 
--- the first t digits are lowered
-abbrev pub Lowered : ℕ → ℕ → ℕ → List ℕ → List ℕ → Type 0
-Lowered m i t digits now' = (length now' ≡ most_data) × ((s : ℕ) → get_or now' s 0 ≡ cond (ltb s t) (low m i (get_or digits s 0)) (get_or digits s 0))
+-- all digits, and 0 after them
+pub all_written : (m n y i weight t : ℕ) (digits : List ℕ) → Written m n y i weight digits → length digits ≡ n → n ≤ i → (zeros : ℕ)
+    → held (digits ++ drop n (replicate zeros 0)) t ≡ digit m n t y
+all_written m n y i weight t digits w e l zeros =
+    grind (arith, nat_tests, w.first_digits t, digit_past, zero_there, get_or_append_left digits (drop n (replicate zeros 0)) 0 t, get_or-append_right digits (drop n (replicate zeros 0)) n t 0, get_or-drop {A = ℕ})
 
--- a row folded so far is no larger than the rows of the pair
-pub folded_few : (m k t : ℕ) (a : ℕ → ℕ) → 0 < m → ((s : ℕ) → a s < m) → t ≤ pred k → row m t a < rows_of m k
-unfolding rows_of
-folded_few m k t a p h l = lt_of_lt_of_le (row_lt m t a (λ s _. h s)) (pow-le-pow_right p l)
+-- the first t digits, folded, are a row
+pub folded_first : (m t : ℕ) (digits : List ℕ) → t ≤ length digits → fold (λ y d. y * m + d) 0 (take t digits) ≡ row m t (held digits)
+unfolding row
+folded_first m zero digits l = refl
+folded_first m (suc t) digits l = grind (arith, folded_first m t digits, fold_more (λ y d. y * m + d) 0 digits t 0)
+
+-- with one digit more they are still a row of the pair, and so are small
+pub next_few : (p : Pair) (digits : List ℕ) (t y d : ℕ) → ((s : ℕ) → held digits s < p.m) → t < length (take (p.k - 1) digits)
+    → y ≡ fold (λ y d. y * p.m + d) 0 (take t (take (p.k - 1) digits)) → d ≡ get_or (take (p.k - 1) digits) t d
+    → (y * p.m < most_rows) × (y * p.m + d < most_rows)
+unfolding rows_of row
+next_few p digits t y d h l folded here =
+    let before : t < p.k - 1 = omega (arith, length-take (p.k - 1) digits) in
+    let y_is : y ≡ row p.m t (held digits) = grind (arith, folded_first p.m t digits, length-take, take-take) in
+    let d_is : d ≡ held digits t = grind (arith, get_or-take, get_or_default_zero, length-take) in
+    let row_of_m : row p.m (suc t) (held digits) < p.m ^ suc t = row_lt p.m (suc t) (held digits) (λ s _. h s) in
+    let fewer : p.m ^ suc t ≤ p.m ^ pred p.k = pow-le-pow_right (omega arith) (omega arith) in
+    rw (y_is, d_is) (omega arith, omega arith)

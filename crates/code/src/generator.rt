@@ -21,7 +21,9 @@ impl Pair {
     }
 }
 
-// The same for plain numbers of any size: the row y with each of its first j digits lowered by i modulo m.
+// The same for plain numbers of any size: the row y with each of its first j digits lowered by i modulo m. (It and `entry`
+// take m and k, and no `Pair`, since a pair that is not admitted is one of their refusals.)
+#[tactic(auto, using(crate::proofs::Places::place_laws))]
 pub fn place(m: usize, k: usize, i: usize, j: usize, y: usize) -> Result<usize, Refusal>
     ensures answers { numbered result ≡ place_answer m k i j y }
     ensures place_laws { PlaceLawsHold }

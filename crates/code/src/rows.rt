@@ -4,7 +4,8 @@ ghost use Rattle.code.specs.Rows.{digit, row, held, low};
 
 use crate::pair::Pair;
 
-// Room for the digits of every row, a_1 to a_(k - 1), and for the a_k after them, which counts as 0.
+// Room for the digits of every row, a_1 to a_(k - 1), and for the a_k after them, which counts as 0. An array by value,
+// so that a row needs no memory of its own.
 pub const DIGITS: usize = 11;
 
 impl Pair {
@@ -13,10 +14,10 @@ impl Pair {
         ensures { (t : ℕ) → held result t ≡ digit self.now.m (pred self.now.k) t y }
     {
         let mut digits = [0; DIGITS];
-        let mut rest = y;
-        for t in (0..self.k - 1).rev() {
-            digits[t] = rest % self.m;
-            rest /= self.m;
+        let mut weight = self.r;
+        for digit in digits[..self.k - 1].iter_mut() {
+            weight /= self.m;
+            *digit = y / weight % self.m;
         }
         digits
     }
@@ -29,8 +30,8 @@ impl Pair {
         ensures { (t : ℕ) → held result t ≡ (if nat_lt t j then low self.now.m i (held digits t) else held digits t) }
     {
         let mut lowered = digits;
-        for t in 0..j {
-            lowered[t] = (digits[t] + (self.m - i)) % self.m;
+        for digit in lowered[..j].iter_mut() {
+            *digit = (*digit + (self.m - i)) % self.m;
         }
         lowered
     }
@@ -40,10 +41,8 @@ impl Pair {
         requires { (t : ℕ) → held digits t < self.now.m }
         ensures { result ≡ row self.now.m (pred self.now.k) (held digits) }
     {
-        let mut y = 0;
-        for t in 0..self.k - 1 {
-            y = y * self.m + digits[t];
-        }
-        y
+        digits[..self.k - 1]
+            .iter()
+            .fold(0, |y, digit| y * self.m + digit)
     }
 }

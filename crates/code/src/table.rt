@@ -52,10 +52,10 @@ pub fn pairs() -> [Sizes; 21]
 pub fn admit(m: usize, k: usize) -> Result<Pair, Refusal>
     ensures { Admits m k result }
 {
-    for p in pairs().iter() {
-        if p.m == m && p.k == k {
-            return Ok(Pair { m, k, r: p.r });
-        }
-    }
-    Err(Refusal::PairNotAdmitted)
+    let table = pairs();
+    let sizes = table
+        .iter()
+        .find(|p| p.m == m && p.k == k)
+        .ok_or(Refusal::PairNotAdmitted)?;
+    Ok(Pair { m, k, r: sizes.r })
 }

@@ -1,6 +1,6 @@
 -- The worked examples, one list. Assumes nothing.
 use Rattle.std.specs.Prelude.{◌≡◌, ℕ, List, [], ◌∷◌, map, length, Ok, codes}
-use Rattle.std.specs.List.{flat_map, AllByRecursion}
+use Rattle.std.specs.List.{flat_map, All}
 use Rattle.code.specs.Answers.{place_answer}
 use Rattle.lists.specs.declared.place.Place.{Place}
 use Rattle.lists.specs.ReadingLists.{place_at, reading_list}
@@ -40,4 +40,4 @@ worked =
     ∷ []
 
 abbrev pub WorkedExamplesGiven : Type 0
-WorkedExamplesGiven = AllByRecursion Given worked
+WorkedExamplesGiven = All Given worked

@@ -12,9 +12,15 @@ pub fn definitions_give_the_worked_examples()
 mod tests {
     use code::{admit, entry, pairs, place};
     use listing::answer;
-    use lists::{Place, count, list};
+    use lists::{Place, Request};
     use refusal::Refusal;
     use std::test::Fail;
+
+    // An entry of a caller's list that no reading list has.
+    const BLANK: Place = Place {
+        box_number: 77,
+        row: 77,
+    };
 
     #[test]
     fn pairs_at_the_edge(rt: HostRuntime) {
@@ -35,7 +41,7 @@ mod tests {
             (usize::MAX, 2),
         ];
         for (m, k) in refused {
-            assert_eq!(rt; admit(m, k).is_ok(), false);
+            assert_eq!(rt; admit(m, k), Err(Refusal::PairNotAdmitted));
             assert_eq!(rt; place(m, k, 0, 0, 0), Err(Refusal::PairNotAdmitted));
         }
         assert!(rt; pairs().len() == 21);
@@ -96,19 +102,21 @@ mod tests {
             ((4, 6, 10, 9), Err(Refusal::NoSuchBox)),
             ((4, 7, 99, 99), Err(Refusal::PairNotAdmitted)),
         ];
-        for ((m, k, lost, c), answer) in cases {
-            assert_eq!(rt; count(m, k, lost, c), answer);
+        for ((m, k, lost, list), answer) in cases {
+            assert_eq!(rt; Request { m, k, lost, list }.count(), answer);
         }
     }
 
     #[test]
     fn lists_fill_what_they_need(rt: HostRuntime) {
-        let blank = Place {
-            box_number: 77,
-            row: 77,
+        let mut places = [BLANK; 10];
+        let request = Request {
+            m: 2,
+            k: 3,
+            lost: 0,
+            list: 1,
         };
-        let mut places = [blank; 10];
-        assert_eq!(rt; list(2, 3, 0, 1, &mut places), Ok(8));
+        assert_eq!(rt; request.list(&mut places), Ok(8));
         let filled = [
             (1, 2),
             (1, 3),
@@ -121,30 +129,27 @@ mod tests {
             (77, 77),
             (77, 77),
         ];
-        for i in 0..10 {
-            let (b, row) = filled[i];
-            assert_eq!(rt; places[i], Place { box_number: b, row });
-        }
+        assert_eq!(rt;
+            places,
+            filled.map(|(box_number, row)| Place { box_number, row })
+        );
     }
 
     #[test]
     fn refused_lists_change_nothing(rt: HostRuntime) {
-        let blank = Place {
-            box_number: 77,
-            row: 77,
-        };
         let cases = [
             ((2, 3, 1, 0), Refusal::TooShort),
             ((2, 3, 1, 2), Refusal::NoSuchList),
             ((2, 3, 5, 2), Refusal::NoSuchBox),
             ((2, 1, 5, 2), Refusal::PairNotAdmitted),
         ];
-        for ((m, k, lost, c), refusal) in cases {
-            let mut places = [blank; 7];
-            assert_eq!(rt; list(m, k, lost, c, &mut places), Err(refusal));
-            for place in places {
-                assert_eq!(rt; place, blank);
-            }
+        for ((m, k, lost, list), refusal) in cases {
+            let mut places = [BLANK; 7];
+            assert_eq!(rt;
+                Request { m, k, lost, list }.list(&mut places),
+                Err(refusal)
+            );
+            assert!(rt; places.iter().all(|place| *place == BLANK));
         }
     }
 

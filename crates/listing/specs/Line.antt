@@ -1,7 +1,7 @@
 -- The one line of input: four numbers, single spaces between them, a newline last. Assumes nothing.
-use Rattle.std.specs.Prelude.{◌≡◌, ℕ, suc, ◌+◌, ◌-◌, ◌*◌, ◌≤◌, Bool, true, false, cond, ◌&&◌, List, [], ◌∷◌, ◌++◌, length, take, drop, Some, None, fold, Option, ◌==◌, nat_le}
-use Rattle.std.specs.List.{prefix_len, AllByRecursion}
-use Rattle.listing.specs.declared.request.Request.{Request}
+use Rattle.std.specs.Prelude.{◌≡◌, ℕ, ◌+◌, ◌-◌, ◌*◌, ◌≤◌, Bool, if◌then◌else◌, ◌&&◌, List, [], ◌∷◌, ◌++◌, length, drop, Some, None, fold, Option, ◌==◌, nat_le, option_and_then}
+use Rattle.std.specs.List.{prefix_len, take_while, AllPass}
+use Rattle.lists.specs.declared.request.Request.{Request}
 
 -- the bytes of a space and a newline, and the most digits of a number
 abbrev pub space : ℕ
@@ -23,7 +23,7 @@ value_of digits = fold (λ v b. v * 10 + (b - 48)) 0 digits
 
 -- one to five digits; zeros in front are digits like any other
 pub record Numeral (digits : List ℕ) : Type 0 where
-  pub all_digits : AllByRecursion (λ b. is_digit b ≡ true) digits
+  pub all_digits : AllPass is_digit digits
   pub some_digit : 1 ≤ length digits
   pub few_digits : length digits ≤ most_digits
 
@@ -40,34 +40,28 @@ pub record IsLineOf (input : List ℕ) (q : Request) : Type 0 where
   pub spelled : input ≡ first ++ (space ∷ (second ++ (space ∷ (third ++ (space ∷ (fourth ++ (newline ∷ [])))))))
   pub values : q ≡ record { m = value_of first; k = value_of second; lost = value_of third; list = value_of fourth }
 
--- a reader of it: the bytes begin with a numeral and then the byte `stop`; its value, and what follows
-abbrev pub begins : ℕ → List ℕ → Bool
-begins b [] = false
-begins b (x ∷ xs) = x == b
-
-abbrev pub field_at : ℕ → ℕ → List ℕ → Option (ℕ × List ℕ)
-field_at n stop bytes =
-    cond (nat_le 1 n && (nat_le n most_digits && begins stop (drop n bytes))) (Some (value_of (take n bytes), drop (suc n) bytes)) None
+-- a reader of it: the number that one to five digits write, where the byte `stop` follows them, and what follows that
+abbrev pub field_at : ℕ → List ℕ → List ℕ → Option (ℕ × List ℕ)
+field_at stop digits [] = None
+field_at stop digits (b ∷ rest) =
+    if (nat_le 1 (length digits) && (nat_le (length digits) most_digits && b == stop)) then (Some (value_of digits, rest)) else None
 
 abbrev pub field_of : ℕ → List ℕ → Option (ℕ × List ℕ)
-field_of stop bytes = field_at (prefix_len is_digit bytes) stop bytes
+field_of stop bytes = field_at stop (take_while is_digit bytes) (drop (prefix_len is_digit bytes) bytes)
 
-abbrev pub and_then : {X Y : Type 0} → Option X → (X → Option Y) → Option Y
-and_then None f = None
-and_then (Some x) f = f x
+-- the `?` of a reader
+infixl 10 ◌>>=◌
+abbrev pub ◌>>=◌ : {X Y : Type 0} → Option X → (X → Option Y) → Option Y
+o >>= f = option_and_then f o
 
--- nothing follows the newline
-abbrev pub at_end : List ℕ → Request → Option Request
-at_end [] q = Some q
-at_end (b ∷ bs) q = None
-
+-- four numbers, and nothing after the newline
 abbrev pub request_of : List ℕ → Option Request
-request_of input =
-    and_then (field_of space input) (λ a.
-    and_then (field_of space a.1) (λ b.
-    and_then (field_of space b.1) (λ c.
-    and_then (field_of newline c.1) (λ d.
-    at_end d.1 (record { m = a.0; k = b.0; lost = c.0; list = d.0 })))))
+request_of input = do
+  m ← field_of space input
+  k ← field_of space m.1
+  lost ← field_of space k.1
+  list ← field_of newline lost.1
+  if (length list.1 == 0) then (Some (record { m = m.0; k = k.0; lost = lost.0; list = list.0 })) else None
 
 -- what the reader finds is what the line says, and it finds every line
 abbrev pub ReaderFindsJustTheLines : Type 0

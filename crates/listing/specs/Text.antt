@@ -1,19 +1,21 @@
 -- The text that is printed for an input. Assumes nothing.
 use Rattle.std.specs.Prelude.{◌≡◌, ℕ, ◌≤◌, List, ◌++◌, length, Some, None, Ok, Err, codes, decimal, Option, Result}
 use Rattle.std.specs.List.{flat_map}
+use Rattle.refusal.specs.Numbers.{refused_as}
 use Rattle.lists.specs.declared.place.Place.{Place}
+use Rattle.lists.specs.Places.{place_text}
 use Rattle.lists.specs.ReadingLists.{reading_list}
 use Rattle.lists.specs.Answers.{count_answer}
-use Rattle.listing.specs.declared.request.Request.{Request}
+use Rattle.lists.specs.declared.request.Request.{Request}
 use Rattle.listing.specs.Line.{request_of}
 
--- `refused` and the number
+-- a line with `refused` and the number
 abbrev pub refused_text : ℕ → List ℕ
-refused_text number = codes "refused " ++ (decimal number ++ codes "\n")
+refused_text number = refused_as number ++ codes "\n"
 
 -- a line with box and row
 abbrev pub place_line : Place → List ℕ
-place_line p = decimal p.box_number ++ (codes " " ++ (decimal p.row ++ codes "\n"))
+place_line p = place_text p ++ codes "\n"
 
 -- the heading, a line for each place, and a line with `blocks` and the count
 abbrev pub places_text : List Place → List ℕ

@@ -1,5 +1,5 @@
 -- What the calls of this crate answer, refusals with it, and what they leave in the caller's list. Assumes nothing.
-use Rattle.std.specs.Prelude.{ℕ, ◌+◌, cond, List, ◌++◌, length, take, drop, Ok, Err, Result, nat_le, nat_lt}
+use Rattle.std.specs.Prelude.{ℕ, ◌+◌, cond, List, ◌++◌, length, drop, Ok, Err, Result, nat_le, nat_lt}
 use Rattle.code.specs.Pairs.{admitted}
 use Rattle.lists.specs.declared.place.Place.{Place}
 use Rattle.lists.specs.ReadingLists.{reading_list, lists_of}
@@ -19,10 +19,6 @@ in_room room (Err e) = Err e
 
 abbrev pub list_answer : ℕ → ℕ → ℕ → ℕ → ℕ → Result ℕ ℕ
 list_answer m k f c room = in_room room (count_answer m k f c)
-
--- the places with some others laid over them from a start on
-abbrev pub laid : ℕ → List Place → List Place → List Place
-laid start over places = take start places ++ (over ++ drop (start + length over) places)
 
 -- the reading list, and after it the entries as they were; a refusal leaves all of them
 abbrev pub filled : List Place → List Place → Result ℕ ℕ → List Place

@@ -1,4 +1,5 @@
+pub mod Places
 pub mod ReadingLists
-pub mod Readings
 pub mod ListLaws
 pub mod Answers
+pub mod Readings

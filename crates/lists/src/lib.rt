@@ -1,10 +1,9 @@
 // Reading lists: which blocks a rebuild of a lost box fetches.
 #![tactic(auto)]
 
-mod answers;
-mod fills;
 mod place;
 mod reading;
+mod request;
 
-pub use answers::{count, list};
 pub use place::Place;
+pub use request::Request;

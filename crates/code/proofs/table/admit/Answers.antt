@@ -1,29 +1,22 @@
-use Rattle.std.proofs.Common.{suc, ◌≤◌, eqb, length, refl, arith}
-use Rattle.std.proofs.lemmas.Bool.{and_left, and_right, ne_eqb}
-use Rattle.code.proofs.Admission.{admitted_true, few_data}
-use Rattle.code.proofs.Tables.{found, found_rows, passed, missed}
+use Rattle.std.proofs.Common.{◌≡◌, false, MatchOption, rules, tests}
+use Rattle.std.specs.Option.{option_map}
+use Rattle.std.proofs.lemmas.Iterator.{YieldsList-from_slice}
+use Rattle.std.proofs.lemmas.Iterator.Search.{find_from_yields_List}
+use Rattle.code.specs.Pairs.{admitted, IsAdmitted}
+use Rattle.code.proofs.Tables.{is_for, found}
 use Rattle.code.proofs.table.admit.Goals as goal
-use Rattle.code.proofs.table.admit.Goals.{else-p-m-via-then-p-m+else-p-k, else-p-m-via-else-p-m}
+use Rattle.code.proofs.table.admit.Goals.{After-find}
+
+-- what the search of the table found
+searched : (c : After-find) → MatchOption (option_map (λ p. p.now) c.find.result) (admitted c.args.m c.args.k ≡ false) (λ p. IsAdmitted c.args.m c.args.k p.r)
+searched c =
+    found c.pairs-table.result c.args.m c.args.k _ c.pairs-table.ensures
+    (find_from_yields_List (is_for c.args.m c.args.k) _ _ _ c.find.ensures.ran (YieldsList-from_slice c.pairs-table.result cc) (λ x b q k. search (rules, tests)))
 
 pub invariant_of-result : goal.invariant_of-result
-invariant_of-result c =
-    let l : suc c.loop-p.p-index ≤ length c.pairs.result = omega (arith, c.pairs.ensures.there_are_21) in
-    let a = admitted_true c.args.m c.args.k (found c.pairs.result c.pairs.ensures c.args.m c.args.k c.loop-p.p-index _ c.loop-p.invariant l c.if-p-m.true c.if-p-k.true) in
-    let power = found_rows c.pairs.result c.pairs.ensures c.args.m c.args.k c.loop-p.p-index _ c.loop-p.invariant l c.if-p-m.true c.if-p-k.true in
-    record { parity = (a.some_parity, a.few_parity); datas = (a.some_data, few_data a); power = power; few = rw (← power) at a.few_rows }
+invariant_of-result c = record { admitted = rw c.in_ok-sizes.ensures.ok_part at (searched (goal.at.invariant_of-result c).After-find) }
 
-pub returns-then-p-k : goal.returns-then-p-k
-returns-then-p-k c =
-    let l : suc c.loop-p.p-index ≤ length c.pairs.result = omega (arith, c.pairs.ensures.there_are_21) in
-    (found c.pairs.result c.pairs.ensures c.args.m c.args.k c.loop-p.p-index _ c.loop-p.invariant l c.if-p-m.true c.if-p-k.true, refl, refl)
-
-pub loop-p-preserved : goal.loop-p-preserved
-loop-p-preserved c =
-    let l : suc c.loop-p.p-index ≤ length c.pairs.result = omega (arith, c.pairs.ensures.there_are_21) in
-    elim c.else-p-m.branch [
-      | else-p-m-via-then-p-m+else-p-k w ↦ passed c.pairs.result c.pairs.ensures c.args.m c.args.k c.loop-p.p-index _ c.loop-p.invariant l (and_right (eqb _ c.args.m) (eqb _ c.args.k) (ne_eqb _ _ w.if-p-k.false))
-      | else-p-m-via-else-p-m w ↦ passed c.pairs.result c.pairs.ensures c.args.m c.args.k c.loop-p.p-index _ c.loop-p.invariant l (and_left (eqb _ c.args.m) (eqb _ c.args.k) (ne_eqb _ _ w.if-p-m.false))
-    ]
-
-pub returns : goal.returns
-returns c = (missed c.pairs.result c.pairs.ensures c.args.m c.args.k c.loop-p.p-index (record { m = 0; k = 0; r = 0 }) c.loop-p.invariant (omega (arith, c.pairs.ensures.there_are_21)), refl)
+pub returns-in_err-sizes : goal.returns-in_err-sizes
+returns-in_err-sizes c =
+    let refused = rw c.in_err-sizes.ensures.ok_part at (searched (goal.at.returns-in_err-sizes c).After-find) in
+    search (rules, refused)

@@ -1,5 +1,9 @@
-use Rattle.code.proofs.Turns.{Lowered}
+use Rattle.std.proofs.Common.{◌≡◌, ℕ, ◌<◌, cond, ltb, length, get_or}
+use Rattle.code.specs.Rows.{held, low}
 use Rattle.code.proofs.pair.Pair.lowered.Given as goal
 
-abbrev pub invariant-loop-t : goal.invariant-loop-t
-invariant-loop-t l = Lowered l.self.m l.i l.t l.digits l.lowered
+-- of the items, those before the index are lowered, and the others are as they were
+abbrev pub invariant-loop-digit : goal.invariant-loop-digit
+invariant-loop-digit l =
+    (s : ℕ) → s < length l.digit-items
+    → get_or l.digit-items s 0 ≡ cond (ltb s l.digit-index) (low l.self.m l.i (held l.fn.digits s)) (held l.fn.digits s)
