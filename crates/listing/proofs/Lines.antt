@@ -50,25 +50,25 @@ field_tells stop bytes x e =
 
 read_is_line : (input : List ℕ) (q : Request) → request_of input ≡ Some q → IsLineOf input q
 read_is_line input q e =
-    option_and_then_some _ (field_of space input) q e λ a ea ra.
-    option_and_then_some _ (field_of space a.1) q ra λ b eb rb.
-    option_and_then_some _ (field_of space b.1) q rb λ c ec rc.
-    option_and_then_some _ (field_of newline c.1) q rc λ d ed rd.
-    let fa = field_tells space input a ea in
-    let fb = field_tells space a.1 b eb in
-    let fc = field_tells space b.1 c ec in
-    let fd = field_tells newline c.1 d ed in
-    let z = cond_some _ _ _ rd in
-    let none_left = nil_from_length d.1 (eqb-true _ _ z.0) in
+    option_and_then_some _ (field_of space input) q e λ m e_m r_m.
+    option_and_then_some _ (field_of space m.1) q r_m λ k e_k r_k.
+    option_and_then_some _ (field_of space k.1) q r_k λ lost e_lost r_lost.
+    option_and_then_some _ (field_of newline lost.1) q r_lost λ list e_list r_list.
+    let f_m = field_tells space input m e_m in
+    let f_k = field_tells space m.1 k e_k in
+    let f_lost = field_tells space k.1 lost e_lost in
+    let f_list = field_tells newline lost.1 list e_list in
+    let z = cond_some _ _ _ r_list in
+    let none_left = nil_from_length list.1 (eqb-true _ _ z.0) in
     record {
-      first = fa.digits;
-      second = fb.digits;
-      third = fc.digits;
-      fourth = fd.digits;
-      first_number = fa.numeral;
-      second_number = fb.numeral;
-      third_number = fc.numeral;
-      fourth_number = fd.numeral;
+      first = f_m.digits;
+      second = f_k.digits;
+      third = f_lost.digits;
+      fourth = f_list.digits;
+      first_number = f_m.numeral;
+      second_number = f_k.numeral;
+      third_number = f_lost.numeral;
+      fourth_number = f_list.numeral;
       spelled = cc;
       values = cc;
     }

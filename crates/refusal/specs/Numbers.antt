@@ -11,7 +11,7 @@ number_of NoSuchList = 16
 number_of TooShort = 17
 number_of NotOneLine = 19
 
--- an answer with its refusal by number, as users know it: the promises of all calls speak of refusals so
+-- an answer with its refusal by number: the promises of all calls speak of refusals so
 abbrev pub numbered : {X : Type 0} → Result X Refusal → Result X ℕ
 numbered (Ok x) = Ok x
 numbered (Err e) = Err (number_of e)
