@@ -5,7 +5,7 @@ use Rattle.std.proofs.lemmas.Bool.Decides.{nat_tests}
 use Rattle.code.specs.Pairs.{most_rows, most_data, rows_of, admitted, IsAdmitted}
 
 -- a wide pair has too many rows
-wide_rows : (m k : ℕ) → 2 ≤ m → most_data < k → most_rows < rows_of m k
+pub wide_rows : (m k : ℕ) → 2 ≤ m → most_data < k → most_rows < rows_of m k
 unfolding rows_of
 wide_rows m k hm hk =
     let more : 2 ^ 11 ≤ 2 ^ pred k = pow-le-pow_right {n = 2} (omega arith) {i = 11} {j = pred k} (omega arith) in

@@ -1,43 +1,44 @@
 -- One turn of each loop over the digits of a row. Assumes nothing.
-use Rattle.std.proofs.Common.{◌≡◌, ℕ, zero, refl, suc, pred, ◌+◌, ◌-◌, ◌*◌, ◌^◌, ◌/◌, ◌%◌, ◌<◌, ◌≤◌, List, length, get_or, set, take, sym, ap, ◌∙◌, below_more, drop, ◌++◌, replicate, arith}
-use native.Mathlib.Nat.{pow-le-pow_right, one-le-pow}
+use Rattle.std.proofs.Common.{◌≡◌, ℕ, zero, refl, suc, pred, ◌+◌, ◌-◌, ◌*◌, ◌^◌, ◌/◌, ◌%◌, ◌<◌, ◌≤◌, List, length, get_or, set, take, sym, ap, ◌∙◌, below_more, drop, ◌++◌, replicate, reverse, add-one, arith}
+use native.Mathlib.Nat.{pow-le-pow_right}
+use Rattle.std.proofs.Math.Nat.{pow-suc, div-div-eq-div-mul}
 use Rattle.std.specs.List.{fold}
 use Rattle.std.proofs.lemmas.List.Sums.{fold_more}
 use Rattle.std.proofs.lemmas.Grind.{get_or_default_zero}
-use Rattle.std.proofs.lemmas.List.{take-take, length-take, get_or-take, get_or-set_same, get_or-set_other, get_or_append_left, get_or-append_right, get_or-drop, get_or-replicate, get_or_past, length-replicate}
+use Rattle.std.proofs.lemmas.List.{take-take, length-take, get_or-take, get_or-set_same, get_or-set_other, get_or_append_left, get_or-append_right, get_or-drop, get_or-replicate, get_or_past, length-replicate, get_or-reverse, length-reverse, take_at, drop_at}
 use Rattle.std.proofs.lemmas.Bool.Decides.{nat_tests}
 use Rattle.code.specs.declared.pair.Pair.{Pair}
 use Rattle.code.specs.Pairs.{most_rows, rows_of}
 use Rattle.code.specs.Rows.{digit, row, held}
-use Rattle.code.proofs.Digits.{next_weight, digit_at, digit_past, row_lt}
+use Rattle.code.proofs.Digits.{digit_at, digit_past, row_lt}
 
--- the first i digits of the row y are written, and the weight is that of the digit before
-pub record Written (m n y i weight : ℕ) (digits : List ℕ) : Type 0 where
-  pub weight_before : weight ≡ m ^ (n - i)
-  pub first_digits : (s : ℕ) → s < i → get_or digits s 0 ≡ digit m n s y
+-- the last i digits of the row y are written, the last of all first, and the rest is the row without them
+pub record Written (m y i rest : ℕ) (digits : List ℕ) : Type 0 where
+  pub rest_of_row : rest ≡ y / m ^ i
+  pub last_digits : (s : ℕ) → s < i → get_or digits s 0 ≡ y / m ^ s % m
 
 -- one digit more
-module _ (m n y i weight : ℕ) (digits : List ℕ) (p : 0 < m) (l : i < n) (w : Written m n y i weight digits) where
-  next : weight / m ≡ m ^ (n - (i + 1))
-  next = ap (λ x. x / m) w.weight_before ∙ next_weight m n i p l
-
-  pub next_positive : 0 < weight / m
-  next_positive = rw next (one-le-pow (n - (i + 1)) m p)
-
-  pub written_more : i < length digits → Written m n y (i + 1) (weight / m) (set digits i (y / (weight / m) % m))
-  written_more h = record {
-    weight_before = next;
-    first_digits = below_more _ i (λ s k. let ne : s ≡ i → ⊥ = omega arith in rw get_or-set_other (w.first_digits s k)) (get_or-set_same digits i _ 0 h ∙ rw next (sym (digit_at m n i y p l)));
-  }
+pub written_more : (m y i rest : ℕ) (digits : List ℕ) → Written m y i rest digits → i < length digits → Written m y (i + 1) (rest / m) (set digits i (rest % m))
+written_more m y i rest digits w l = record {
+  rest_of_row = ap (λ x. x / m) w.rest_of_row ∙ div-div-eq-div-mul y (m ^ i) m ∙ ap (λ x. y / x) (sym (pow-suc m i) ∙ ap (λ k. m ^ k) (sym (add-one i)));
+  last_digits = below_more _ i (λ s k. let ne : s ≡ i → ⊥ = omega arith in rw get_or-set_other (w.last_digits s k)) (get_or-set_same digits i _ 0 l ∙ ap (λ x. x % m) w.rest_of_row);
+}
 
 zero_there : (n i : ℕ) → ◌≡◌ {A = ℕ} (get_or (replicate n 0) i 0) 0
 zero_there n i = grind (arith, nat_tests, get_or-replicate {A = ℕ} n i 0 0, get_or_past {X = ℕ} (replicate n 0) i 0, length-replicate {A = ℕ})
 
--- all digits, and 0 after them
-pub all_written : (m n y i weight t : ℕ) (digits : List ℕ) → Written m n y i weight digits → length digits ≡ n → n ≤ i → (zeros : ℕ)
-    → held (digits ++ drop n (replicate zeros 0)) t ≡ digit m n t y
-all_written m n y i weight t digits w e l zeros =
-    grind (arith, nat_tests, w.first_digits t, digit_past, zero_there, get_or_append_left digits (drop n (replicate zeros 0)) 0 t, get_or-append_right digits (drop n (replicate zeros 0)) n t 0, get_or-drop {A = ℕ})
+-- all digits turned round, and 0 after them
+pub all_written : (m n y i rest t : ℕ) (digits turned : List ℕ) → 0 < m → Written m y i rest digits → length digits ≡ n → n ≤ i → (zeros : ℕ)
+    → turned ≡ reverse (take n (digits ++ drop n (replicate zeros 0))) → held (turned ++ drop n (digits ++ drop n (replicate zeros 0))) t ≡ digit m n t y
+all_written m n y i rest t digits turned p w e l zeros r =
+    let after : List ℕ = drop n (replicate zeros 0) in
+    let turns : turned ≡ reverse digits = r ∙ ap reverse (take_at digits after n e) in
+    let long : length turned ≡ n = ap length turns ∙ length-reverse digits ∙ e in
+    let here : t < n → get_or turned t 0 ≡ digit m n t y = λ h.
+    let place : length digits - 1 - t ≡ n - (t + 1) = omega arith in
+    ap (λ xs. get_or xs t 0) turns ∙ get_or-reverse digits t 0 (omega arith) ∙ ap (λ s. get_or digits s 0) place
+    ∙ w.last_digits (n - (t + 1)) (omega arith) ∙ sym (digit_at m n t y p h) in
+    rw (drop_at digits after n e) (grind (arith, nat_tests, here, digit_past, zero_there, get_or_append_left turned after 0 t, get_or-append_right turned after n t 0, get_or-drop {A = ℕ}))
 
 -- the first t digits, folded, are a row
 pub folded_first : (m t : ℕ) (digits : List ℕ) → t ≤ length digits → fold (λ y d. y * m + d) 0 (take t digits) ≡ row m t (held digits)

@@ -14,11 +14,13 @@ impl Pair {
         ensures { (t : ℕ) → held result t ≡ digit self.now.m (pred self.now.k) t y }
     {
         let mut digits = [0; DIGITS];
-        let mut weight = self.r;
+        let mut rest = y;
+        // the digit that weighs least is found first
         for digit in digits[..self.k - 1].iter_mut() {
-            weight /= self.m;
-            *digit = y / weight % self.m;
+            *digit = rest % self.m;
+            rest /= self.m;
         }
+        digits[..self.k - 1].reverse();
         digits
     }
 

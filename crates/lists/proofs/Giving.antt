@@ -26,5 +26,11 @@ module _ (m k f c b y : ℕ) where
     pub gives_first_data : f ≤ 0 → b < k → eqb (held digits 0) c ≡ gives m k f c b y
     gives_first_data none h = rw are (grind (arith, nat_tests, gives_other hf ne))
 
-    pub gives_first_parity : f ≤ 0 → k ≤ b → c < m → eqb (held digits 0) ((c + (b - k) % m) % m) ≡ gives m k f c b y
-    gives_first_parity none h l = rw are (grind (arith, nat_tests, gives_other hf ne, mod-eq_of_lt l, add-mod c (b - k) m))
+    pub gives_first_parity : f ≤ 0 → k ≤ b → eqb (held digits 0) ((c + (b - k)) % m) ≡ gives m k f c b y
+    gives_first_parity none h = rw are (grind (arith, nat_tests, gives_other hf ne))
+
+    -- with b - k reduced, so that the sum is small whatever b is
+    pub gives_first_reduced : f ≤ 0 → k ≤ b → c < m → eqb (held digits 0) ((c + (b - k) % m) % m) ≡ gives m k f c b y
+    gives_first_reduced none h l =
+        let reduced : (c + (b - k) % m) % m ≡ (c + (b - k)) % m = grind (arith, mod-eq_of_lt l, add-mod c (b - k) m) in
+        rw reduced (gives_first_parity none h)

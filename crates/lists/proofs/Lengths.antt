@@ -12,13 +12,13 @@ use Rattle.lists.proofs.Giving.{gives_own, gives_other, gives_parity}
 use Rattle.lists.proofs.Order.{places_rise, only_places, all_places}
 use Rattle.lists.proofs.Shares.{one_more, digit_share, difference_share}
 
-rows_length : (p : ℕ → Bool) (b n : ℕ) → length (rows_where p b n) ≡ count n p
+pub rows_length : (p : ℕ → Bool) (b n : ℕ) → length (rows_where p b n) ≡ count n p
 unfolding rows_where total
 rows_length p b zero = refl
 rows_length p b (suc n) = rw (length-append, rows_length p b n) (grind arith)
 
 -- by how many rows each box gives
-places_length : (p : ℕ → ℕ → Bool) (r n : ℕ) (F : ℕ → ℕ) → ((b : ℕ) → count r (p b) ≡ F b) → length (places_where p r n) ≡ total n F
+pub places_length : (p : ℕ → ℕ → Bool) (r n : ℕ) (F : ℕ → ℕ) → ((b : ℕ) → count r (p b) ≡ F b) → length (places_where p r n) ≡ total n F
 unfolding places_where total
 places_length p r zero F e = refl
 places_length p r (suc n) F e = rw (length-append, places_length p r n F e, rows_length, e n)

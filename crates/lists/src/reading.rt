@@ -48,7 +48,7 @@ impl Reading {
     }
 
     // Whether the list has this place of the stripe.
-    #[tactic(auto, using(crate::proofs::Giving::gives_own, crate::proofs::Giving::gives_parity, crate::proofs::Giving::gives_later, crate::proofs::Giving::gives_first_data, crate::proofs::Giving::gives_first_parity, code::proofs::Digits::digit_lt))]
+    #[tactic(auto, using(crate::proofs::Giving::gives_own, crate::proofs::Giving::gives_parity, crate::proofs::Giving::gives_later, crate::proofs::Giving::gives_first_data, crate::proofs::Giving::gives_first_reduced, code::proofs::Digits::digit_lt))]
     fn gives(&self, place: &Place) -> bool
         ensures { result ≡ given_by self.now place.now.box_number place.now.row }
     {
@@ -79,11 +79,13 @@ impl Reading {
         ensures count { result ≡ length (places_given self.now) }
     {
         let Pair { m, k, r } = self.pair;
-        let stripe = (0..m + k).flat_map(|b| (0..r).map(move |row| Place { box_number: b, row }));
         let mut count = 0;
-        for place in stripe.filter(|place| self.gives(place)) {
-            places[count] = place;
-            count += 1;
+        for b in 0..m + k {
+            let rows = (0..r).map(|row| Place { box_number: b, row });
+            for place in rows.filter(|place| self.gives(place)) {
+                places[count] = place;
+                count += 1;
+            }
         }
         count
     }

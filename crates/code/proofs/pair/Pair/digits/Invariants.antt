@@ -1,6 +1,5 @@
-use Rattle.std.proofs.Common.{pred}
 use Rattle.code.proofs.Turns.{Written}
 use Rattle.code.proofs.pair.Pair.digits.Given as goal
 
 abbrev pub invariant-loop-digit : goal.invariant-loop-digit
-invariant-loop-digit l = Written l.self.m (pred l.self.k) l.y l.digit-index l.weight l.digit-items
+invariant-loop-digit l = Written l.self.m l.y l.digit-index l.rest l.digit-items

@@ -1,59 +1,55 @@
-use Rattle.std.proofs.Common.{rules, tests, ◌≡◌, ◌+◌, ◌<◌, length, map, refl, arith}
-use Rattle.std.proofs.lemmas.List.{length_push, map-id}
+use Rattle.std.proofs.Common.{rules, tests, ◌+◌, ◌<◌, ◌++◌, length, refl, ap, append_assoc, length-append, append-nil, arith}
+use Rattle.std.proofs.lemmas.List.{map-id}
 use Rattle.std.proofs.lemmas.Iterator.{YieldsList-from_range, YieldsList-from_map}
 use Rattle.std.proofs.lemmas.Iterator.Consumers.{YieldsList-from_filter, YieldsList-at, YieldsList-turn, YieldsList-end}
-use Rattle.std.proofs.lemmas.Iterator.Adapters.{YieldsList-from_flat_map}
-use Rattle.lists.specs.ReadingLists.{place_at}
-use Rattle.lists.specs.Readings.{given_by, places_given}
-use Rattle.lists.proofs.Laying.{passes, places_pass, laid_more}
+use Rattle.lists.specs.ReadingLists.{place_at, rows_where, places_where}
+use Rattle.lists.specs.Readings.{given_by}
+use Rattle.lists.proofs.Laying.{passes, rows_pass, places_more, places_le, laid_more}
 use Rattle.lists.proofs.reading.Reading.fill.Goals as goal
 
--- the chain yields the places that the list has
+pub loop-b-init : goal.loop-b-init
+unfolding places_where
+loop-b-init c = record { list_first = refl; counted = refl }
+
+-- the chain yields the places of the box that the list has
 pub loop-place-init : goal.loop-place-init
 loop-place-init c =
     let l = c.args.self.now in
-    let p = l.pair in
+    let r = l.pair.r in
     record {
-      chain = rw (← places_pass (given_by l) p.r (p.m + p.k))
+      chain = rw (← rows_pass (given_by l) c.loop-b.b-counter r)
           (YieldsList-at c.into_iter-place-iterator.ensures.into_iter_gives
           (YieldsList-from_filter _ (passes (given_by l))
           (YieldsList-at c.filter-place-items.ensures.source
-          (YieldsList-from_flat_map _ _ _ _ _ _
-          (λ b rows q k. (
-            search (rules, tests),
-            λ j e. YieldsList-at (search rules)
-                (YieldsList-from_map {s = rows} _ (place_at b) (YieldsList-from_range 0 p.r p.r (search (rules, tests)) (omega arith)) refl (λ row place f called. search (rules, tests))),
-          ))
-          (YieldsList-from_range 0 (p.m + p.k) (p.m + p.k) (cc) (omega arith))
-          c.flat_map-stripe.ensures.closure c.flat_map-stripe.ensures.front c.flat_map-stripe.ensures.back c.flat_map-stripe.ensures.done))
-          c.filter-place-items.ensures.closure (λ x r q k. search (rules, tests))));
-      laid = refl;
-      counted = refl;
+          (YieldsList-from_map {s = c.map-rows.result} _ (place_at c.loop-b.b-counter) (YieldsList-from_range 0 r r (search (rules, tests)) (omega arith)) c.map-rows.ensures.closure (λ row place f called. search (rules, tests))))
+          c.filter-place-items.ensures.closure (λ x t q k. search (rules, tests))));
+      laid = rw append-nil c.loop-b.invariant;
     }
 
-room : (c : goal.In-Some) → length c.loop-place.yielded < length c.args.places.now
+-- where this row of the box has its place in the list, the caller's places have room
+room : (c : goal.In-Some) → c.loop-place.count < length c.args.places.now
 room c =
+    let l = c.args.self.now in
+    let p = given_by l in
+    let b = c.loop-b.b-counter in
     let turn = (YieldsList-turn c.loop-place.invariant.chain c.loop-place.yielded _ c.loop-place.yielded_by _ _ c.in-Some.place c.in-Some.is c.next.ensures.steps).0 in
-    omega (arith, c.requires)
+    omega (arith, c.requires, c.loop-place.invariant.laid.counted, length-append (places_where p l.pair.r b) c.loop-place.yielded, ap length (places_more p l.pair.r b), length-append (places_where p l.pair.r b) (rows_where (p b) b l.pair.r), places_le p l.pair.r (b + 1) (l.pair.m + l.pair.k) (omega arith))
 
 pub bounds-places-count : goal.bounds-places-count
-bounds-places-count c = omega (arith, room c)
+bounds-places-count c = omega (arith, room c, c.loop-place.auto.places, c.loop-b.auto.places)
 
 pub loop-place-preserved : goal.loop-place-preserved
 loop-place-preserved c =
-    let xs = c.loop-place.yielded in
+    let p = given_by c.args.self.now in
+    let before = places_where p c.args.self.now.pair.r c.loop-b.b-counter in
     record {
       chain = c.loop-place.invariant.chain;
-      laid = cc (laid_more xs c.args.places.now c.in-Some.place (room c));
-      counted = cc (length_push xs c.in-Some.place);
+      laid = rw append_assoc at (laid_more (before ++ c.loop-place.yielded) c.args.places.now c.loop-place.places c.loop-place.count c.in-Some.place c.loop-place.invariant.laid (room c));
     }
 
--- at the end the whole list was yielded
-whole : (c : goal.In-None) → (map (λ x. x) c.loop-place.yielded ≡ places_given c.args.self.now) × (length c.loop-place.yielded ≡ length (places_given c.args.self.now))
-whole c = YieldsList-end c.loop-place.invariant.chain c.loop-place.yielded _ c.loop-place.yielded_by _ _ c.in-None.is c.next.ensures.steps
-
-pub returns-clause-places : goal.returns-clause-places
-returns-clause-places c = cc ((whole c).0, map-id c.loop-place.yielded)
-
-pub returns-clause-count : goal.returns-clause-count
-returns-clause-count c = cc ((whole c).1)
+-- at its end all rows of the box were yielded
+pub loop-b-preserved : goal.loop-b-preserved
+loop-b-preserved c =
+    let p = given_by c.args.self.now in
+    let all = (YieldsList-end c.loop-place.invariant.chain c.loop-place.yielded _ c.loop-place.yielded_by _ _ c.in-None.is c.next.ensures.steps).0 in
+    rw (places_more, ← all, map-id) c.loop-place.invariant.laid
